@@ -1,0 +1,5 @@
+pub mod ByteLaws
+pub mod LeastLaws
+pub mod PackingLaws
+pub mod RowLaws
+pub mod WritesLaws

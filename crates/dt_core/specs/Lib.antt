@@ -1,0 +1,4 @@
+pub mod BitVectors
+pub mod Causes
+pub mod Least
+pub mod Packing
