@@ -1,0 +1,5 @@
+pub mod Format
+pub mod FormatView
+pub mod Fired
+pub mod FlatRun
+pub mod Names
