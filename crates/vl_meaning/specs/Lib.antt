@@ -1,0 +1,7 @@
+pub mod Objects
+pub mod Faults
+pub mod Expression
+pub mod Statement
+pub mod Run
+pub mod StandsFor
+pub mod SameRun
