@@ -1,0 +1,14 @@
+use Rattle.std.proofs.Common.{◌≡◌, drop}
+use Rattle.vl_tree.specs.View as view
+use Rattle.vl_meaning.specs.Faults as faults
+use Rattle.vl_scope.specs.Left.{left_after}
+use Rattle.vl_scope.proofs.counts.+stops.Given as goal
+
+-- what is left after the rest is what is left after all
+abbrev pub invariant-count_stops-loop-stmt : goal.invariant-count_stops-loop-stmt
+invariant-count_stops-loop-stmt l =
+    left_after l.left (faults.stmts_stops (view.stmts (drop l.stmt-index l.stmts))) ≡ left_after l.fn.left (faults.stmts_stops (view.stmts l.stmts))
+
+abbrev pub invariant-stops_in_branches-loop-branch : goal.invariant-stops_in_branches-loop-branch
+invariant-stops_in_branches-loop-branch l =
+    left_after l.left (faults.branches_stops (view.branches (drop l.branch-index l.branches))) ≡ left_after l.fn.left (faults.branches_stops (view.branches l.branches))

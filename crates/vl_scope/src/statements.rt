@@ -1,0 +1,138 @@
+//! The faults of statements: names that are read and written, formats.
+
+ghost use Rattle.std.specs.Prelude.{◌≡◌, map};
+ghost use Rattle.vl_tree.specs.View as view;
+ghost use Rattle.vl_meaning.specs.Faults as faults;
+
+use crate::scope::Scope;
+use dt_core::text::Text;
+use flat_ir::format::items;
+use vl_tree::tree::{Branch, Expr, Module, Operand, Port, Stmt};
+
+/// Whether each of these statements has no fault.
+#[cycle(statements)]
+pub fn are_stmts(module: &Module, scope: &Scope<'_>, stmts: &[Stmt]) -> bool
+    requires { scope.now ≡ map view.port module.now.ports.items }
+    ensures { result ≡ faults.are_stmts (view.module_of module.now) (view.stmts stmts.now) }
+{
+    for stmt in stmts {
+        if !is_stmt(module, scope, stmt) {
+            return false;
+        }
+    }
+    true
+}
+
+/// Whether a statement has no fault.
+#[cycle(statements)]
+pub fn is_stmt(module: &Module, scope: &Scope<'_>, stmt: &Stmt) -> bool
+    requires { scope.now ≡ map view.port module.now.ports.items }
+    ensures { result ≡ faults.is_stmt (view.module_of module.now) (view.stmt stmt.now) }
+{
+    match stmt {
+        Stmt::Block(body) => are_stmts(module, scope, body.as_slice()),
+        Stmt::Conditional(branches, otherwise) => {
+            if !are_branches(module, scope, branches.as_slice()) {
+                return false;
+            }
+            match otherwise {
+                None => true,
+                Some(body) => is_stmt(module, scope, body.get()),
+            }
+        }
+        Stmt::Assign(target, value) => {
+            is_target(module, scope, target) && is_expr(module, scope, value)
+        }
+        Stmt::Display(format, argument) => is_display(module, scope, format, argument),
+        Stmt::Stop(_) => true,
+    }
+}
+
+#[cycle(statements)]
+fn are_branches(module: &Module, scope: &Scope<'_>, branches: &[Branch<Stmt>]) -> bool
+    requires { scope.now ≡ map view.port module.now.ports.items }
+    ensures { result ≡ faults.are_branches (view.module_of module.now) (view.branches branches.now) }
+{
+    for branch in branches {
+        if !is_expr(module, scope, &branch.condition) {
+            return false;
+        }
+        if !is_stmt(module, scope, &branch.body) {
+            return false;
+        }
+    }
+    true
+}
+
+/// Whether each name in an expression may be read.
+pub fn is_expr(module: &Module, scope: &Scope<'_>, expr: &Expr) -> bool
+    requires { scope.now ≡ map view.port module.now.ports.items }
+    ensures { result ≡ faults.is_expr (view.module_of module.now) (view.expr expr.now) }
+{
+    match expr {
+        Expr::Plain(operand) => is_operand(module, scope, operand),
+        Expr::Sum(left, right) => {
+            is_operand(module, scope, left) && is_operand(module, scope, right)
+        }
+        Expr::Equal(left, right) => {
+            is_operand(module, scope, left) && is_operand(module, scope, right)
+        }
+        Expr::Not(operand) => is_operand(module, scope, operand),
+    }
+}
+
+fn is_operand(module: &Module, scope: &Scope<'_>, operand: &Operand) -> bool
+    requires { scope.now ≡ map view.port module.now.ports.items }
+    ensures { result ≡ faults.is_operand (view.module_of module.now) (view.operand operand.now) }
+{
+    match operand {
+        Operand::Name(name) => is_read(module, scope, name),
+        Operand::Number(_) => true,
+    }
+}
+
+/// Whether a name may be read: it is declared, and isn't the clock.
+pub fn is_read(module: &Module, scope: &Scope<'_>, name: &Text) -> bool
+    requires { scope.now ≡ map view.port module.now.ports.items }
+    ensures { result ≡ faults.is_read (view.module_of module.now) name.now }
+{
+    scope.port_of(name).is_some() && name != &module.clock
+}
+
+/// Whether a name may be written: an output has it.
+pub fn is_target(module: &Module, scope: &Scope<'_>, name: &Text) -> bool
+    requires { scope.now ≡ map view.port module.now.ports.items }
+    ensures { result ≡ faults.is_target (view.module_of module.now) name.now }
+{
+    match scope.port_of(name) {
+        Some(Port::Output(_, _, _)) => true,
+        Some(Port::Input(_)) => false,
+        None => false,
+    }
+}
+
+/// Whether a format shows its argument, if there is one, and that may be read.
+pub fn is_display(
+    module: &Module,
+    scope: &Scope<'_>,
+    format: &Text,
+    argument: &Option<Text>,
+) -> bool
+    requires { scope.now ≡ map view.port module.now.ports.items }
+    ensures { result ≡ faults.is_display (view.module_of module.now) format.now argument.now }
+{
+    match argument {
+        None => is_format(format, 0),
+        Some(name) => is_format(format, 1) && is_read(module, scope, name),
+    }
+}
+
+// Whether a format shows this many arguments, and has no other item.
+fn is_format(format: &Text, arguments: usize) -> bool
+    ensures { result ≡ faults.is_format format.now arguments }
+{
+    match items(format.bytes()) {
+        Some(shown) => shown == arguments,
+        None => false,
+    }
+}
