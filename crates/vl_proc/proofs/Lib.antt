@@ -1,0 +1,9 @@
+pub mod Ports
+pub mod Cells
+pub mod Values
+pub mod Sees
+pub mod Builds
+pub mod Made
+pub mod Turns
+pub mod Views
+pub mod Whole

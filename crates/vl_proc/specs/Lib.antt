@@ -1,0 +1,4 @@
+pub mod Ports
+pub mod Scopes
+pub mod Lowers
+pub mod Counter
