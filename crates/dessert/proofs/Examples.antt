@@ -1,0 +1,135 @@
+-- Worked examples of words, of the texts of designs and reports, and of a whole run.
+use Rattle.std.proofs.Common.{◌≡◌, ℕ, zero, suc, ◌<◌, List, [], ◌∷◌, replicate, refl, arith}
+use Rattle.std.specs.Prelude.{codes, true, false, Some, slice_index_or}
+use Rattle.std.specs.Fmt.{digits}
+use Rattle.flat_ir.specs.Names.{Fit}
+use Rattle.vl_tree.specs.Tree.{input, stop, no_stmt, more_stmt, Module}
+use Rattle.vl_tree.proofs.Counter.{counter}
+use Rattle.vl_tree.proofs.GrammarExamples.{counter_tokens, counter_derives}
+use Rattle.vl_front.specs.OneCounter.{IsOneCounter}
+use Rattle.dessert.specs.Report.{Stop, stop_text, failure_text, quiet_text, file_failed_text, file_long_text}
+use Rattle.dessert.specs.Answer.{allowed, bad, done}
+use Rattle.dessert.specs.Outcome.{words_of, design_text, report_of, Judges}
+
+-- ---- words
+
+sim_and_a_file : words_of (codes "sim" ∷ codes "a.v" ∷ []) ≡ allowed (codes "a.v")
+sim_and_a_file = refl
+
+sim_alone : words_of (codes "sim" ∷ []) ≡ bad
+sim_alone = refl
+
+setting_is_no_file : words_of (codes "sim" ∷ codes "lag=4" ∷ []) ≡ bad
+setting_is_no_file = refl
+
+other_command : words_of (codes "run" ∷ codes "a.v" ∷ []) ≡ bad
+other_command = refl
+
+no_words : words_of [] ≡ bad
+no_words = refl
+
+empty_file_word : words_of (codes "sim" ∷ [] ∷ []) ≡ bad
+empty_file_word = refl
+
+third_word : words_of (codes "sim" ∷ codes "a.v" ∷ codes "b.v" ∷ []) ≡ bad
+third_word = refl
+
+-- ---- the text of a design
+
+text_of_empty_file : design_text [] ≡ codes "\n"
+text_of_empty_file = refl
+
+line_is_ended : design_text (codes "endmodule") ≡ codes "endmodule\n"
+line_is_ended = refl
+
+ended_line_is_kept : design_text (codes "endmodule\n") ≡ codes "endmodule\n"
+ended_line_is_kept = refl
+
+-- the counter's file is the counter's text: its tokens, line by line, derive the tree, which has no static fault
+abbrev counter_file : List ℕ
+counter_file = codes "module cnt(input clk, input rst, input en, output reg [3:0] r);\n  always @(posedge clk) begin\n    if (rst)\n      r <= 4'd0;\n    else if (en)\n      r <= r + 4'd1;\n    if (r == 4'd9) begin\n      $display(\"r hit %0d\", r);\n      $stop;\n    end\n  end\nendmodule\n"
+
+counter_is_read : IsOneCounter (design_text counter_file) counter
+counter_is_read = record { plain = refl; tokens = counter_tokens; spelled = refl; derived = counter_derives; sound = refl }
+
+-- ---- reports
+
+-- a stop of the counter, with this message
+abbrev counter_stop : List ℕ → Stop
+counter_stop message = record { path = codes "cnt"; file = codes "examples/cnt.v"; line = 9; message = message }
+
+counter_failure : failure_text 9 (counter_stop (codes "r hit 9\n") ∷ []) 0
+    ≡ codes "failure at cycle 9\nstop in cnt at examples/cnt.v:9\nr hit 9\nwindow 0 to 9\n"
+unfolding digits
+counter_failure = refl
+
+-- a message that doesn't end with LF gets one, and an empty one gets none
+message_is_ended : stop_text (counter_stop (codes "r hit 9")) ≡ codes "stop in cnt at examples/cnt.v:9\nr hit 9\n"
+unfolding digits
+message_is_ended = refl
+
+empty_message : stop_text (counter_stop []) ≡ codes "stop in cnt at examples/cnt.v:9\n"
+unfolding digits
+empty_message = refl
+
+-- each assertion of the cycle stands in order
+two_stops : failure_text 120 (counter_stop [] ∷ counter_stop (codes "late\n") ∷ []) 56
+    ≡ codes "failure at cycle 120\nstop in cnt at examples/cnt.v:9\nstop in cnt at examples/cnt.v:9\nlate\nwindow 56 to 120\n"
+unfolding digits
+two_stops = refl
+
+nine_cycles : quiet_text 9 ≡ codes "no failure in 9 cycles\n"
+unfolding digits
+nine_cycles = refl
+
+no_cycles : quiet_text 0 ≡ codes "no failure in 0 cycles\n"
+unfolding digits
+no_cycles = refl
+
+failed_file : file_failed_text (codes "a.v") ≡ codes "file a.v: failed\n"
+failed_file = refl
+
+long_file : file_long_text (codes "a.v") ≡ codes "file a.v: too long\n"
+long_file = refl
+
+-- ---- the window
+
+-- module m(input c); always @(posedge c) begin $stop; end endmodule, where the stop is on line 2: it fires in each cycle
+abbrev stopping : Module
+stopping = record { name = codes "m"; ports = input (codes "c") ∷ []; clock = codes "c"; body = more_stmt (stop 2) no_stmt }
+
+-- the window begins 64 cycles before the failure, and at 0 at the least
+window_of_64 : report_of (codes "a.v") stopping (replicate 66 []) (Some 64) ≡ codes "failure at cycle 64\nstop in m at a.v:2\nwindow 0 to 64\n"
+unfolding digits
+window_of_64 = refl
+
+window_of_65 : report_of (codes "a.v") stopping (replicate 66 []) (Some 65) ≡ codes "failure at cycle 65\nstop in m at a.v:2\nwindow 1 to 65\n"
+unfolding digits
+window_of_65 = refl
+
+-- ---- a whole run
+
+-- n rows with rst 0 and en 1
+abbrev enabled : ℕ → List (List ℕ)
+enabled n = replicate n (0 ∷ 1 ∷ [])
+
+enabled_fit : (n t : ℕ) → t < n → Fit (1 ∷ 1 ∷ []) (slice_index_or (enabled n) t [])
+enabled_fit zero t h = absurd (omega (arith, h))
+enabled_fit (suc n) zero h = (omega arith, (omega arith, tt))
+enabled_fit (suc n) (suc t) h = enabled_fit n t (omega (arith, h))
+
+-- twenty rows of the counter: it fails in cycle 9
+abbrev twenty_rows : List ℕ
+twenty_rows = codes "stimulus 1\ninputs rst en\n0 1\n0 1\n0 1\n0 1\n0 1\n0 1\n0 1\n0 1\n0 1\n0 1\n0 1\n0 1\n0 1\n0 1\n0 1\n0 1\n0 1\n0 1\n0 1\n0 1\n"
+
+twenty_rows_fail : Judges (codes "examples/cnt.v") counter twenty_rows (done true (codes "failure at cycle 9\nstop in cnt at examples/cnt.v:9\nr hit 9\nwindow 0 to 9\n"))
+unfolding digits
+twenty_rows_fail = (enabled 20, record { text = refl; few = omega arith; fit = enabled_fit 20 }, refl, refl)
+
+-- nine rows don't come so far
+abbrev nine_rows : List ℕ
+nine_rows = codes "stimulus 1\ninputs rst en\n0 1\n0 1\n0 1\n0 1\n0 1\n0 1\n0 1\n0 1\n0 1\n"
+
+nine_rows_are_quiet : Judges (codes "examples/cnt.v") counter nine_rows (done false (codes "no failure in 9 cycles\n"))
+unfolding digits
+nine_rows_are_quiet = (enabled 9, record { text = refl; few = omega arith; fit = enabled_fit 9 }, refl, refl)

@@ -1,0 +1,10 @@
+pub mod Report
+pub mod Answer
+pub mod Outcome
+pub mod Writing
+pub mod Ended
+pub mod Progress
+pub mod Ran
+pub mod Rows
+pub mod Complete
+pub mod Settles

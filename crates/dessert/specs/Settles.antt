@@ -1,0 +1,41 @@
+-- What is written of a run over all rows, or of a stimulus that was refused or broke off. This project's own.
+use Rattle.std.specs.Prelude.{◌≡◌, ℕ, ◌-◌, List, map, Option, Some, None}
+use Rattle.std.specs.Io.KnownBytes.{Keeps}
+use Rattle.stim.specs.declared.reader.StimFault.{StimFault}
+use Rattle.stim.specs.declared.reader.StimFault.TheVariants as s
+use Rattle.dessert.specs.Report.{stop_of, failure_text, quiet_text, stimulus_refused_text, read_failed_text}
+use Rattle.dessert.specs.Answer.{Status, quiet, failure, input, reading, memory}
+use Rattle.dessert.specs.Progress.{Failure, Progress}
+use Rattle.dessert.specs.Outcome.{lag}
+use Rattle.dessert.specs.Writing.{Wrote, Reported}
+use Rattle.dessert.specs.declared.rows.RowsFault.{RowsFault}
+use Rattle.dessert.specs.declared.rows.RowsFault.TheVariants as f
+
+-- the status and the report of a first failure, or of none in so many cycles
+abbrev pub ended_by : Option Failure → Status
+ended_by (Some x) = failure
+ended_by None = quiet
+
+abbrev pub text_by : List ℕ → List ℕ → ℕ → Option Failure → List ℕ
+text_by file path cycles (Some x) = failure_text x.cycle (map (stop_of path file) x.fired) (x.cycle - lag)
+text_by file path cycles None = quiet_text cycles
+
+-- that report was written whole, in part, or not at all
+abbrev pub Settles : List ℕ → List ℕ → Progress → Status → Option (List ℕ) → Option (List ℕ) → ℕ → ℕ → Type 0
+Settles file path p result held0 held1 faults0 faults1 = Reported (text_by file path p.cycles p.failure) (ended_by p.failure) result held0 held1 faults0 faults1
+
+-- the status and the report of a stimulus that was refused, or whose source failed
+abbrev pub refusal_status : StimFault → Status
+refusal_status s.NotBuilt = input
+refusal_status s.Truncated = input
+refusal_status s.Read = reading
+
+abbrev pub refusal_text : StimFault → List ℕ
+refusal_text s.NotBuilt = stimulus_refused_text
+refusal_text s.Truncated = stimulus_refused_text
+refusal_text s.Read = read_failed_text
+
+-- that report was written whole or in part; or nothing was, for want of memory
+abbrev pub GivesUp : RowsFault → Status → Option (List ℕ) → Option (List ℕ) → ℕ → ℕ → Type 0
+GivesUp (f.Stimulus e) result held0 held1 faults0 faults1 = Wrote (refusal_text e) (refusal_status e) result held0 held1 faults0 faults1
+GivesUp f.Memory result held0 held1 faults0 faults1 = (result ≡ memory) × Keeps held0 held1

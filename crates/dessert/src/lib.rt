@@ -1,0 +1,20 @@
+//! The top call: words, a file and a stimulus in, a status and a report out.
+//!
+//! Below: `vl_front` (text to design), `stim` (stimulus to rows), `plain_sim` (a design's cycles), `dt_io` (the outside). Above:
+//! `dessert_cli`, the program. `top` is the way through; `words`, `run`, `rows` and `texts` are its steps.
+//! Promise: `quiet_main` answers what `specs/Answer` says over `specs/Outcome`: each status with its cause, and where all is well
+//! outside, 0 or 1 with the report of the design's own run (`Run` of `vl_meaning`), or 9.
+//! Not said: that memory is enough; what real files and streams hold.
+#![tactic(auto)]
+
+mod ended;
+mod rows;
+mod run;
+#[cfg(test)]
+mod tests;
+mod texts;
+mod top;
+mod words;
+mod write;
+
+pub use top::quiet_main;

@@ -1,0 +1,46 @@
+//! Running a design over all rows of a source.
+
+ghost use Rattle.std.specs.Prelude.{◌≡◌, [], IsTrue, length};
+ghost use Rattle.flat_ir.specs.Names.{input_names};
+ghost use Rattle.stim.specs.Reads.{Reads};
+ghost use Rattle.dessert.specs.Ran.{RanTo};
+ghost use Rattle.dessert.specs.Rows.{RanAll};
+
+use crate::run::Run;
+use dt_core::fault::NoMemory;
+use dt_io::outside::Source;
+use std::alloc::Global;
+use stim::reader::{StimFault, StimReader};
+
+/// Why a run didn't come to the end of its rows.
+#[derive(Clone, Copy, Debug, Drop)]
+pub enum RowsFault {
+    Stimulus(StimFault),
+    Memory,
+}
+
+/// Runs over every row of the source, also behind a failure.
+pub fn run_rows<S: Source>(
+    alloc: Global,
+    reader: &mut StimReader,
+    run: &mut Run<'_>,
+    source: &mut S,
+) -> Result<(), RowsFault>
+    requires live { IsTrue reader.old.live }
+    requires reads { Reads (input_names run.old.flat.signals) reader.old [] [] }
+    requires ran { RanTo run.old.flat [] run.old }
+    requires inputs { run.old.flat.inputs ≡ length (input_names run.old.flat.signals) }
+    ensures { RanAll run.old.flat (input_names run.old.flat.signals) (S.left source.old) (S.left source.new) (S.faults source.old) (S.faults source.new) run.new result }
+{
+    'rows: loop {
+        match reader.next_row(source) {
+            Ok(true) => {
+                let Ok(()) = run.take(alloc, reader.row()) else {
+                    return Err(RowsFault::Memory);
+                };
+            }
+            Ok(false) => return Ok(()),
+            Err(fault) => return Err(RowsFault::Stimulus(fault)),
+        }
+    }
+}
