@@ -11,31 +11,31 @@ use flat_ir::flat::{Flat, FlatDraft};
 use std::alloc::Global;
 use std::test::Fail;
 
+fn signal(alloc: Global, name: &[u8], width: u32, role: Role) -> Result<Signal, Fail>
+    ensures { IfOk result (λ s. s.role ≡ role) }
+{
+    Ok(Signal {
+        name: Text::copied(alloc, name)?,
+        width,
+        role,
+    })
+}
+
+fn when(condition: u32, deed: Deed) -> Action
+    ensures { result ≡ record { condition = condition; deed = deed } }
+{
+    Action { condition, deed }
+}
+
 // The inputs are 0 `rst` and 1 `en`, the register is 0 `r`.
 fn counter(alloc: Global) -> Result<Flat, Fail>
     ensures { IfOk result (λ f. f.inputs ≡ 2) }
 {
     let signals = vec![in alloc;
-        Signal {
-            name: Text::copied(alloc, b"clk")?,
-            width: 1,
-            role: Role::Clock
-        },
-        Signal {
-            name: Text::copied(alloc, b"rst")?,
-            width: 1,
-            role: Role::Input(0)
-        },
-        Signal {
-            name: Text::copied(alloc, b"en")?,
-            width: 1,
-            role: Role::Input(1)
-        },
-        Signal {
-            name: Text::copied(alloc, b"r")?,
-            width: 4,
-            role: Role::Register(0)
-        },
+        signal(alloc, b"clk", 1, Role::Clock)?,
+        signal(alloc, b"rst", 1, Role::Input(0))?,
+        signal(alloc, b"en", 1, Role::Input(1))?,
+        signal(alloc, b"r", 4, Role::Register(0))?,
     ]?;
     let nodes = vec![in alloc;
         Node::Input(0),
@@ -50,22 +50,10 @@ fn counter(alloc: Global) -> Result<Flat, Fail>
         Node::Equal(2, 8),
     ]?;
     let actions = vec![in alloc;
-        Action {
-            condition: 0,
-            deed: Deed::Write(0, 3)
-        },
-        Action {
-            condition: 7,
-            deed: Deed::Write(0, 5)
-        },
-        Action {
-            condition: 9,
-            deed: Deed::Say(Text::copied(alloc, b"r hit %0d")?, Some(2))
-        },
-        Action {
-            condition: 9,
-            deed: Deed::Stop(8)
-        },
+        when(0, Deed::Write(0, 3)),
+        when(7, Deed::Write(0, 5)),
+        when(9, Deed::Say(Text::copied(alloc, b"r hit %0d")?, Some(2))),
+        when(9, Deed::Stop(8)),
     ]?;
     let draft = FlatDraft {
         name: Text::copied(alloc, b"counter")?,
