@@ -9,17 +9,17 @@ use dt_core::limits::MAX_STATEMENTS;
 use vl_tree::tree::{Branch, Module, Stmt};
 
 /// Whether the block of a module has no more statements than may be, itself among them.
-pub fn is_short(module: &Module) -> bool
-    ensures { result ≡ faults.is_short (view.module_of module.now) }
+pub fn is_short(top: &Module) -> bool
+    ensures { result ≡ faults.is_short (view.module_of top.now) }
 {
-    count_stmts(module.body.as_slice(), MAX_STATEMENTS - 1).is_some()
+    count_stmts(top.body.as_slice(), MAX_STATEMENTS - 1).is_some()
 }
 
 /// Whether one `$stop` at most stands in the block of a module.
-pub fn stops_once(module: &Module) -> bool
-    ensures { result ≡ nat_le (faults.stmts_stops (view.stmts module.now.body)) 1 }
+pub fn stops_once(top: &Module) -> bool
+    ensures { result ≡ nat_le (faults.stmts_stops (view.stmts top.now.body)) 1 }
 {
-    count_stops(module.body.as_slice(), 1).is_some()
+    count_stops(top.body.as_slice(), 1).is_some()
 }
 
 fn take_one(left: u32) -> Option<u32>

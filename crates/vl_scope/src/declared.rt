@@ -14,11 +14,11 @@ use vl_tree::token::Literal;
 use vl_tree::tree::{Module, Port};
 
 /// Whether a module has no more signals and data inputs than may be.
-pub fn are_few(module: &Module) -> bool
-    ensures { result ≡ faults.are_few (view.module_of module.now) }
+pub fn are_few(top: &Module) -> bool
+    ensures { result ≡ faults.are_few (view.module_of top.now) }
 {
-    module.ports.len() <= MAX_SIGNALS as usize
-        && count_data_inputs(&module.clock, &module.ports) <= MAX_INPUTS as usize
+    top.ports.len() <= MAX_SIGNALS as usize
+        && count_data_inputs(&top.clock, &top.ports) <= MAX_INPUTS as usize
 }
 
 // How many inputs there are, the clock aside.
@@ -44,15 +44,15 @@ fn is_data_input(clock: &Text, port: &Port) -> bool
 }
 
 /// Whether the declarations of a module have no fault.
-pub fn are_declared(module: &Module, scope: &Scope<'_>) -> bool
-    requires few { IsTrue (faults.are_few (view.module_of module.now)) }
-    requires scope { scope.now ≡ map view.port module.now.ports.items }
-    ensures { result ≡ faults.are_declared (view.module_of module.now) }
+pub fn are_declared(top: &Module, scope: &Scope<'_>) -> bool
+    requires few { IsTrue (faults.are_few (view.module_of top.now)) }
+    requires scope { scope.now ≡ map view.port top.now.ports.items }
+    ensures { result ≡ faults.are_declared (view.module_of top.now) }
 {
-    have_ranges(&module.ports)
-        && are_narrow(&module.ports)
+    have_ranges(&top.ports)
+        && are_narrow(&top.ports)
         && scope.are_distinct()
-        && is_clock(module, scope)
+        && is_clock(top, scope)
 }
 
 fn have_ranges(ports: &[Port]) -> bool
@@ -112,11 +112,11 @@ pub fn is_narrow(port: &Port) -> bool
 }
 
 /// Whether the clock of a module's block is one of its inputs.
-pub fn is_clock(module: &Module, scope: &Scope<'_>) -> bool
-    requires { scope.now ≡ map view.port module.now.ports.items }
-    ensures { result ≡ faults.is_clock (view.module_of module.now) }
+pub fn is_clock(top: &Module, scope: &Scope<'_>) -> bool
+    requires { scope.now ≡ map view.port top.now.ports.items }
+    ensures { result ≡ faults.is_clock (view.module_of top.now) }
 {
-    match scope.port_of(&module.clock) {
+    match scope.port_of(&top.clock) {
         Some(Port::Input(_)) => true,
         Some(Port::Output(_, _, _)) => false,
         None => false,

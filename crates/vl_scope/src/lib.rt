@@ -22,26 +22,26 @@ use std::alloc::Global;
 use vl_tree::tree::Module;
 
 /// Whether a module has no static fault.
-pub fn is_sound(alloc: Global, module: &Module) -> Result<bool, NoMemory>
-    ensures { IfOk result (λ sound. sound ≡ faults.is_sound (module_of module.now)) }
+pub fn is_sound(alloc: Global, top: &Module) -> Result<bool, NoMemory>
+    ensures { IfOk result (λ sound. sound ≡ faults.is_sound (module_of top.now)) }
 {
-    if !declared::are_few(module) {
+    if !declared::are_few(top) {
         return Ok(false);
     }
-    let scope = Scope::of_ports(alloc, &module.ports)?;
-    Ok(is_sound_in(module, &scope))
+    let scope = Scope::of_ports(alloc, &top.ports)?;
+    Ok(is_sound_in(top, &scope))
 }
 
 /// Whether a module that has few enough declarations has no static fault, where the scope of its ports is at hand.
-pub fn is_sound_in(module: &Module, scope: &Scope<'_>) -> bool
-    requires few { IsTrue (faults.are_few (module_of module.now)) }
-    requires scope { scope.now ≡ map port module.now.ports.items }
-    ensures { result ≡ faults.is_sound (module_of module.now) }
+pub fn is_sound_in(top: &Module, scope: &Scope<'_>) -> bool
+    requires few { IsTrue (faults.are_few (module_of top.now)) }
+    requires scope { scope.now ≡ map port top.now.ports.items }
+    ensures { result ≡ faults.is_sound (module_of top.now) }
 {
-    declared::are_declared(module, scope)
-        && statements::are_stmts(module, scope, module.body.as_slice())
-        && counts::is_short(module)
-        && counts::stops_once(module)
+    declared::are_declared(top, scope)
+        && statements::are_stmts(top, scope, top.body.as_slice())
+        && counts::is_short(top)
+        && counts::stops_once(top)
 }
 
 #[cfg(test)]

@@ -11,12 +11,12 @@ use vl_tree::tree::{Branch, Expr, Module, Operand, Port, Stmt};
 
 /// Whether each of these statements has no fault.
 #[cycle(statements)]
-pub fn are_stmts(module: &Module, scope: &Scope<'_>, stmts: &[Stmt]) -> bool
-    requires { scope.now ≡ map view.port module.now.ports.items }
-    ensures { result ≡ faults.are_stmts (view.module_of module.now) (view.stmts stmts.now) }
+pub fn are_stmts(top: &Module, scope: &Scope<'_>, stmts: &[Stmt]) -> bool
+    requires { scope.now ≡ map view.port top.now.ports.items }
+    ensures { result ≡ faults.are_stmts (view.module_of top.now) (view.stmts stmts.now) }
 {
     for stmt in stmts {
-        if !is_stmt(module, scope, stmt) {
+        if !is_stmt(top, scope, stmt) {
             return false;
         }
     }
@@ -25,39 +25,39 @@ pub fn are_stmts(module: &Module, scope: &Scope<'_>, stmts: &[Stmt]) -> bool
 
 /// Whether a statement has no fault.
 #[cycle(statements)]
-pub fn is_stmt(module: &Module, scope: &Scope<'_>, stmt: &Stmt) -> bool
-    requires { scope.now ≡ map view.port module.now.ports.items }
-    ensures { result ≡ faults.is_stmt (view.module_of module.now) (view.stmt stmt.now) }
+pub fn is_stmt(top: &Module, scope: &Scope<'_>, stmt: &Stmt) -> bool
+    requires { scope.now ≡ map view.port top.now.ports.items }
+    ensures { result ≡ faults.is_stmt (view.module_of top.now) (view.stmt stmt.now) }
 {
     match stmt {
-        Stmt::Block(body) => are_stmts(module, scope, body.as_slice()),
+        Stmt::Block(body) => are_stmts(top, scope, body.as_slice()),
         Stmt::Conditional(branches, otherwise) => {
-            if !are_branches(module, scope, branches.as_slice()) {
+            if !are_branches(top, scope, branches.as_slice()) {
                 return false;
             }
             match otherwise {
                 None => true,
-                Some(body) => is_stmt(module, scope, body.get()),
+                Some(body) => is_stmt(top, scope, body.get()),
             }
         }
         Stmt::Assign(target, value) => {
-            is_target(module, scope, target) && is_expr(module, scope, value)
+            is_target(top, scope, target) && is_expr(top, scope, value)
         }
-        Stmt::Display(format, argument) => is_display(module, scope, format, argument),
+        Stmt::Display(format, argument) => is_display(top, scope, format, argument),
         Stmt::Stop(_) => true,
     }
 }
 
 #[cycle(statements)]
-fn are_branches(module: &Module, scope: &Scope<'_>, branches: &[Branch<Stmt>]) -> bool
-    requires { scope.now ≡ map view.port module.now.ports.items }
-    ensures { result ≡ faults.are_branches (view.module_of module.now) (view.branches branches.now) }
+fn are_branches(top: &Module, scope: &Scope<'_>, branches: &[Branch<Stmt>]) -> bool
+    requires { scope.now ≡ map view.port top.now.ports.items }
+    ensures { result ≡ faults.are_branches (view.module_of top.now) (view.branches branches.now) }
 {
     for branch in branches {
-        if !is_expr(module, scope, &branch.condition) {
+        if !is_expr(top, scope, &branch.condition) {
             return false;
         }
-        if !is_stmt(module, scope, &branch.body) {
+        if !is_stmt(top, scope, &branch.body) {
             return false;
         }
     }
@@ -65,44 +65,42 @@ fn are_branches(module: &Module, scope: &Scope<'_>, branches: &[Branch<Stmt>]) -
 }
 
 /// Whether each name in an expression may be read.
-pub fn is_expr(module: &Module, scope: &Scope<'_>, expr: &Expr) -> bool
-    requires { scope.now ≡ map view.port module.now.ports.items }
-    ensures { result ≡ faults.is_expr (view.module_of module.now) (view.expr expr.now) }
+pub fn is_expr(top: &Module, scope: &Scope<'_>, expr: &Expr) -> bool
+    requires { scope.now ≡ map view.port top.now.ports.items }
+    ensures { result ≡ faults.is_expr (view.module_of top.now) (view.expr expr.now) }
 {
     match expr {
-        Expr::Plain(operand) => is_operand(module, scope, operand),
-        Expr::Sum(left, right) => {
-            is_operand(module, scope, left) && is_operand(module, scope, right)
-        }
+        Expr::Plain(operand) => is_operand(top, scope, operand),
+        Expr::Sum(left, right) => { is_operand(top, scope, left) && is_operand(top, scope, right) }
         Expr::Equal(left, right) => {
-            is_operand(module, scope, left) && is_operand(module, scope, right)
+            is_operand(top, scope, left) && is_operand(top, scope, right)
         }
-        Expr::Not(operand) => is_operand(module, scope, operand),
+        Expr::Not(operand) => is_operand(top, scope, operand),
     }
 }
 
-fn is_operand(module: &Module, scope: &Scope<'_>, operand: &Operand) -> bool
-    requires { scope.now ≡ map view.port module.now.ports.items }
-    ensures { result ≡ faults.is_operand (view.module_of module.now) (view.operand operand.now) }
+fn is_operand(top: &Module, scope: &Scope<'_>, operand: &Operand) -> bool
+    requires { scope.now ≡ map view.port top.now.ports.items }
+    ensures { result ≡ faults.is_operand (view.module_of top.now) (view.operand operand.now) }
 {
     match operand {
-        Operand::Name(name) => is_read(module, scope, name),
+        Operand::Name(name) => is_read(top, scope, name),
         Operand::Number(_) => true,
     }
 }
 
 /// Whether a name may be read: it is declared, and isn't the clock.
-pub fn is_read(module: &Module, scope: &Scope<'_>, name: &Text) -> bool
-    requires { scope.now ≡ map view.port module.now.ports.items }
-    ensures { result ≡ faults.is_read (view.module_of module.now) name.now }
+pub fn is_read(top: &Module, scope: &Scope<'_>, name: &Text) -> bool
+    requires { scope.now ≡ map view.port top.now.ports.items }
+    ensures { result ≡ faults.is_read (view.module_of top.now) name.now }
 {
-    scope.port_of(name).is_some() && name != &module.clock
+    scope.port_of(name).is_some() && name != &top.clock
 }
 
 /// Whether a name may be written: an output has it.
-pub fn is_target(module: &Module, scope: &Scope<'_>, name: &Text) -> bool
-    requires { scope.now ≡ map view.port module.now.ports.items }
-    ensures { result ≡ faults.is_target (view.module_of module.now) name.now }
+pub fn is_target(top: &Module, scope: &Scope<'_>, name: &Text) -> bool
+    requires { scope.now ≡ map view.port top.now.ports.items }
+    ensures { result ≡ faults.is_target (view.module_of top.now) name.now }
 {
     match scope.port_of(name) {
         Some(Port::Output(_, _, _)) => true,
@@ -112,18 +110,13 @@ pub fn is_target(module: &Module, scope: &Scope<'_>, name: &Text) -> bool
 }
 
 /// Whether a format shows its argument, if there is one, and that may be read.
-pub fn is_display(
-    module: &Module,
-    scope: &Scope<'_>,
-    format: &Text,
-    argument: &Option<Text>,
-) -> bool
-    requires { scope.now ≡ map view.port module.now.ports.items }
-    ensures { result ≡ faults.is_display (view.module_of module.now) format.now argument.now }
+pub fn is_display(top: &Module, scope: &Scope<'_>, format: &Text, argument: &Option<Text>) -> bool
+    requires { scope.now ≡ map view.port top.now.ports.items }
+    ensures { result ≡ faults.is_display (view.module_of top.now) format.now argument.now }
 {
     match argument {
         None => is_format(format, 0),
-        Some(name) => is_format(format, 1) && is_read(module, scope, name),
+        Some(name) => is_format(format, 1) && is_read(top, scope, name),
     }
 }
 
