@@ -194,15 +194,20 @@ fn texts_with_one_fault_each(rt: HostRuntime) -> Result<(), Fail> {
     Ok(())
 }
 
+// A text so many times behind itself.
+fn repeated(alloc: Global, text: &[u8], times: u32) -> Result<Vec<u8>, Fail> {
+    let mut all = Vec::new(alloc);
+    for _ in 0..times {
+        all.extend_from_slice(text)?;
+    }
+    Ok(all)
+}
+
 // A design with so many `begin` blocks in one another; the block's own statements stand at depth 2.
 fn nested(alloc: Global, blocks: u32) -> Result<Vec<u8>, Fail> {
-    let mut body = Vec::new(alloc);
-    for _ in 0..blocks {
-        body.extend_from_slice(b"begin ")?;
-    }
-    for _ in 0..blocks {
-        body.extend_from_slice(b"end ")?;
-    }
+    let mut body = repeated(alloc, b"begin ", blocks)?;
+    let ends = repeated(alloc, b"end ", blocks)?;
+    body.extend_from_slice(&ends)?;
     with_body(alloc, &body)
 }
 
