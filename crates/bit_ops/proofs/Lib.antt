@@ -1,2 +1,11 @@
-mod Signs
+mod AppliedExamples
+mod Counted
+mod Division
+mod DivisionLaws
 mod Examples
+mod Inserts
+mod PlaceLaws
+mod Ranges
+mod Residues
+mod Shifted
+mod Signs

@@ -1,1 +1,4 @@
+pub mod Applied
+pub mod Laws
 pub mod Operators
+pub mod Reading

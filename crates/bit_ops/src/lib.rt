@@ -1,65 +1,144 @@
-//! Operators on numbers of a width of 1 to 128 bits.
+//! Operators on bit vectors of 1 to 128 bits, and on numbers of such a width.
 //!
-//! Below: `dt_core`. Above: `vl_front` (constants at the width of their context), `plain_sim` (the values of a cycle).
-//! Promise: each call gives the value that `specs/Operators` defines on whole numbers. No call takes memory.
+//! Below: `dt_core` (`Bits`). Above: what evaluates expressions, once for constants and in each cycle of a run.
+//! Promise: each call gives the width and the value that `specs/Applied` and `specs/Operators` define on whole numbers: a value is a
+//! number modulo 2^width, a signed one is read in two's complement. No call takes memory.
+//! Not said: how long a call takes.
 #![tactic(auto)]
 
-ghost use Rattle.std.specs.Prelude.{◌≡◌, ◌≤◌, ◌<◌, ◌^◌, ◌-◌};
+ghost use Rattle.std.specs.Prelude.{◌≡◌, ◌≤◌, ◌+◌, true};
+ghost use Rattle.bit_ops.specs.Applied as applied;
 ghost use Rattle.bit_ops.specs.Operators as ops;
 
-/// The low `width` bits of a number.
-pub fn low(value: u128, width: u32) -> u128
-    requires { width ≤ 128 }
-    ensures { result ≡ ops.low width value }
-{
-    if width == 128 {
-        value
-    } else {
-        value & ((1u128 << width) - 1)
-    }
-}
-
-/// The sum of two numbers, modulo 2^width.
-pub fn add(left: u128, right: u128, width: u32) -> u128
-    requires { width ≤ 128 }
-    ensures { result ≡ ops.add width left right }
-{
-    low(left.wrapping_add(right), width)
-}
-
-/// A number of `from` bits at the larger width of `to` bits: extended by its sign where it is signed, else by zeros.
-pub fn extend(value: u128, from: u32, to: u32, signed: bool) -> u128
-    requires widths { (1 ≤ from) × (from ≤ to) × (to ≤ 128) }
-    requires fits { value < 2 ^ from }
-    ensures { result ≡ ops.extend signed from to value }
-{
-    if signed && value >= 1 << (from - 1) {
-        value + (ones(to) - ones(from))
-    } else {
-        value
-    }
-}
-
-// 2^width - 1
-fn ones(width: u32) -> u128
-    requires { (1 ≤ width) × (width ≤ 128) }
-    ensures { result ≡ 2 ^ width - 1 }
-{
-    u128::MAX >> (128 - width)
-}
-
+mod arithmetic;
+mod compare;
+pub mod laws;
+pub mod numbers;
+pub mod operator;
+mod places;
+mod reduce;
+mod shifts;
 #[cfg(test)]
-mod tests {
-    use super::{add, extend, low};
+mod tests;
 
-    #[test]
-    fn computes_at_a_width(rt: HostRuntime) {
-        assert_eq!(rt; low(0x1f, 4), 15);
-        assert_eq!(rt; add(15, 1, 4), 0);
-        assert_eq!(rt; add(u128::MAX, 1, 128), 0);
-        assert_eq!(rt; extend(8, 4, 8, true), 0xf8);
-        assert_eq!(rt; extend(8, 4, 8, false), 8);
-        assert_eq!(rt; extend(7, 4, 8, true), 7);
-        assert_eq!(rt; extend(1, 1, 128, true), u128::MAX);
+use arithmetic::{difference, negated, product, quotient, remainder, sum};
+use compare::{is_at_most, is_less};
+use dt_core::bits::Bits;
+pub use numbers::{add, low};
+use numbers::{cut, turned};
+pub use operator::{Binary, Unary};
+use places::{inserted, joined, selected};
+use reduce::{holds, is_all_ones, is_odd};
+use shifts::{shift_left, shift_right};
+
+/// The vector at a larger width: extended by its sign where it is signed, else by zeros.
+pub fn extend(a: Bits, width: u32, signed: bool) -> Bits
+    requires { (a.width ≤ width) × (width ≤ 128) }
+    ensures width { result.width ≡ width }
+    ensures value { result.value ≡ ops.extend signed a.width width a.value }
+{
+    Bits::of(width, numbers::extend(a.value(), a.width(), width, signed))
+}
+
+/// The low `width` bits.
+pub fn cut_to(a: Bits, width: u32) -> Bits
+    requires { (1 ≤ width) × (width ≤ a.width) }
+    ensures width { result.width ≡ width }
+    ensures value { result.value ≡ ops.low width a.value }
+{
+    Bits::of(width, cut(a.value(), width))
+}
+
+/// What an operator on one operand gives. A reduction and `!` give one bit.
+pub fn unary(op: Unary, a: Bits) -> Bits
+    ensures width { result.width ≡ applied.unary_width op a.width }
+    ensures value { result.value ≡ applied.unary op a.width a.value }
+{
+    let width = a.width();
+    match op {
+        Unary::Plus => a,
+        Unary::Minus => Bits::of(width, negated(a.value(), width)),
+        Unary::Not => Bits::of(width, turned(a.value(), width, true)),
+        Unary::LogicNot => bit(!holds(a)),
+        Unary::And => bit(is_all_ones(a)),
+        Unary::Nand => bit(!is_all_ones(a)),
+        Unary::Or => bit(holds(a)),
+        Unary::Nor => bit(!holds(a)),
+        Unary::Xor => bit(is_odd(a)),
+        Unary::Xnor => bit(!is_odd(a)),
     }
+}
+
+/// What an operator on two operands gives; `signed` where both are. The operands have the same width, but for a shift, whose second
+/// operand is a distance, and for the logical operators. A comparison and a logical operator give one bit.
+pub fn binary(op: Binary, a: Bits, b: Bits, signed: bool) -> Bits
+    requires { applied.takes_one_width op ≡ true → a.width ≡ b.width }
+    ensures width { result.width ≡ applied.binary_width op a.width }
+    ensures value { result.value ≡ applied.binary op signed a.width a.value b.value }
+{
+    let width = a.width();
+    let (x, y) = (a.value(), b.value());
+    match op {
+        Binary::Mul => Bits::of(width, product(x, y, width)),
+        Binary::Div => Bits::of(width, quotient(x, y, width, signed)),
+        Binary::Rem => Bits::of(width, remainder(x, y, width, signed)),
+        Binary::Add => Bits::of(width, sum(x, y, width)),
+        Binary::Sub => Bits::of(width, difference(x, y, width)),
+        Binary::Shl => Bits::of(width, shift_left(x, y, width)),
+        Binary::Shr => Bits::of(width, shift_right(x, y, width, false)),
+        Binary::Sar => Bits::of(width, shift_right(x, y, width, signed)),
+        Binary::Lt => bit(is_less(x, y, width, signed)),
+        Binary::Le => bit(is_at_most(x, y, width, signed)),
+        Binary::Gt => bit(is_less(y, x, width, signed)),
+        Binary::Ge => bit(is_at_most(y, x, width, signed)),
+        Binary::Eq => bit(x == y),
+        Binary::Ne => bit(x != y),
+        Binary::And => Bits::of(width, x & y),
+        Binary::Xor => Bits::of(width, x ^ y),
+        Binary::Xnor => Bits::of(width, turned(x ^ y, width, true)),
+        Binary::Or => Bits::of(width, x | y),
+        Binary::LogicAnd => bit(holds(a) && holds(b)),
+        Binary::LogicOr => bit(holds(a) || holds(b)),
+    }
+}
+
+/// The `width` bits from `place` upward, wherever that is; 0 at places outside of the vector.
+pub fn select(a: Bits, place: i64, width: u32) -> Bits
+    requires { (1 ≤ width) × (width ≤ 128) }
+    ensures width { result.width ≡ width }
+    ensures value { result.value ≡ ops.select place width a.value }
+{
+    Bits::of(width, selected(a.value(), place, width))
+}
+
+/// The vector with the part's bits from `place` upward, wherever that is; those that fall outside are lost.
+pub fn insert(a: Bits, place: i64, part: Bits) -> Bits
+    ensures width { result.width ≡ a.width }
+    ensures value { result.value ≡ ops.insert a.width place part.width part.value a.value }
+{
+    let width = a.width();
+    Bits::of(
+        width,
+        inserted(a.value(), width, place, part.value(), part.width()),
+    )
+}
+
+/// `high` to the left of `low`.
+pub fn concat(high: Bits, low: Bits) -> Bits
+    requires { high.width + low.width ≤ 128 }
+    ensures width { result.width ≡ high.width + low.width }
+    ensures value { result.value ≡ ops.concat low.width high.value low.value }
+{
+    Bits::of(
+        high.width() + low.width(),
+        joined(high.value(), high.width(), low.value(), low.width()),
+    )
+}
+
+// One bit: 1 where the test holds.
+fn bit(test: bool) -> Bits
+    ensures width { result.width ≡ 1 }
+    ensures value { result.value ≡ ops.bit test }
+{
+    Bits::of(1, u128::from(test))
 }

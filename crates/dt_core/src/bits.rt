@@ -25,6 +25,16 @@ impl Bits {
         Some(Bits { width, value })
     }
 
+    /// The bit vector of this width and of a value that fits it.
+    pub fn of(width: u32, value: u128) -> Bits
+        requires wide { (1 ≤ width) × (width ≤ 128) }
+        requires fits { value < 2 ^ width }
+        ensures width { result.width ≡ width }
+        ensures value { result.value ≡ value }
+    {
+        Bits { width, value }
+    }
+
     /// Its width in bits.
     pub fn width(&self) -> u32
         ensures { result ≡ self.now.width }

@@ -11,7 +11,7 @@ ghost use Rattle.vl_proc.specs.Lowers.{bare, context, Makes};
 
 use crate::builder::Nodes;
 use crate::names::Scope;
-use bit_ops::extend;
+use bit_ops::numbers::extend;
 use dt_core::fault::NoMemory;
 use flat_ir::design::{Node, Role};
 use vl_tree::tree::{Expr, Operand};

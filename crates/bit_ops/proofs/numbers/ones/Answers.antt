@@ -1,6 +1,6 @@
 use Rattle.std.proofs.Common.{◌≡◌, ◌≤◌, ℕ, ◌-◌, ◌^◌, ◌∙◌, ap, arith}
 use Rattle.std.proofs.lemmas.Nat.Bits.{ones_shr}
-use Rattle.bit_ops.proofs.ones.Goals as goal
+use Rattle.bit_ops.proofs.numbers.ones.Goals as goal
 
 pub returns : goal.returns
 returns c =

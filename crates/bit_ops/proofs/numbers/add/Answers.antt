@@ -1,6 +1,6 @@
 use Rattle.std.proofs.Common.{◌≡◌, ℕ, ◌+◌, ◌-◌, ◌%◌, ◌^◌, ◌∙◌, sym, ap, arith}
 use Rattle.std.proofs.Math.Pow.{mod-mod-pow}
-use Rattle.bit_ops.proofs.add.Goals as goal
+use Rattle.bit_ops.proofs.numbers.add.Goals as goal
 
 pub returns : goal.returns
 returns c =

@@ -2,7 +2,7 @@ use Rattle.std.proofs.Common.{◌≡◌, ℕ, ◌*◌, ◌-◌, ◌%◌, ◌^◌
 use Rattle.std.proofs.Math.Nat.{mod-eq_of_lt}
 use Rattle.std.proofs.Math.Pow.{pow-lt}
 use Rattle.std.proofs.lemmas.Nat.{and_mask}
-use Rattle.bit_ops.proofs.low.Goals as goal
+use Rattle.bit_ops.proofs.numbers.low.Goals as goal
 
 pub returns-else-width-eq128 : goal.returns-else-width-eq128
 returns-else-width-eq128 c =

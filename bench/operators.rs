@@ -1,0 +1,163 @@
+//! What operators.rattle does, on the numbers of the machine: u32, u64 and u128.
+use std::time::Instant;
+
+#[derive(Clone, Copy)]
+enum Binary {
+    Mul,
+    Div,
+    Rem,
+    Add,
+    Sub,
+    Shl,
+    Shr,
+    Sar,
+    Lt,
+    Le,
+    Gt,
+    Ge,
+    Eq,
+    Ne,
+    And,
+    Xor,
+    Xnor,
+    Or,
+    LogicAnd,
+    LogicOr,
+}
+
+const STEPS: u32 = 1024;
+
+const OPS: [(&str, Binary); 20] = [
+    ("*", Binary::Mul),
+    ("/", Binary::Div),
+    ("%", Binary::Rem),
+    ("+", Binary::Add),
+    ("-", Binary::Sub),
+    ("<<", Binary::Shl),
+    (">>", Binary::Shr),
+    (">>>", Binary::Sar),
+    ("<", Binary::Lt),
+    ("<=", Binary::Le),
+    (">", Binary::Gt),
+    (">=", Binary::Ge),
+    ("==", Binary::Eq),
+    ("!=", Binary::Ne),
+    ("&", Binary::And),
+    ("^", Binary::Xor),
+    ("~^", Binary::Xnor),
+    ("|", Binary::Or),
+    ("&&", Binary::LogicAnd),
+    ("||", Binary::LogicOr),
+];
+
+fn next(state: &mut u64) -> u64 {
+    *state = state
+        .wrapping_mul(6364136223846793005)
+        .wrapping_add(1442695040888963407);
+    *state >> 11
+}
+
+fn operand(state: &mut u64) -> u128 {
+    let high = u128::from(next(state)) << 75;
+    let middle = u128::from(next(state)) << 40;
+    high ^ middle ^ u128::from(next(state))
+}
+
+fn steps(only: Option<Binary>, width: u32) -> Vec<(Binary, u128, u128)> {
+    let mut state = 7;
+    let mut made = Vec::new();
+    for _ in 0..STEPS {
+        let any = OPS[(next(&mut state) % 20) as usize].1;
+        let op = only.unwrap_or(any);
+        let a = operand(&mut state) >> (128 - width);
+        let full = operand(&mut state) >> (128 - width);
+        let b = match op {
+            Binary::Shl | Binary::Shr | Binary::Sar => full & 15,
+            Binary::Div | Binary::Rem => full >> (width / 2),
+            _ => full,
+        };
+        made.push((op, a, b));
+    }
+    made
+}
+
+macro_rules! machine {
+    ($report:ident, $unsigned:ty, $signed:ty) => {
+        fn $report(name: &str, only: Option<Binary>, signed: bool) {
+            #[derive(Clone, Copy)]
+            struct Step {
+                op: Binary,
+                a: $unsigned,
+                b: $unsigned,
+                signed: bool,
+            }
+
+            fn value(step: &Step) -> $unsigned {
+                let (a, b) = (step.a, step.b);
+                let (x, y) = (a as $signed, b as $signed);
+                let far = b >= <$unsigned>::BITS as $unsigned;
+                match step.op {
+                    Binary::Mul => a.wrapping_mul(b),
+                    Binary::Div if b == 0 => 0,
+                    Binary::Div if step.signed => x.wrapping_div(y) as $unsigned,
+                    Binary::Div => a / b,
+                    Binary::Rem if b == 0 => 0,
+                    Binary::Rem if step.signed => x.wrapping_rem(y) as $unsigned,
+                    Binary::Rem => a % b,
+                    Binary::Add => a.wrapping_add(b),
+                    Binary::Sub => a.wrapping_sub(b),
+                    Binary::Shl if far => 0,
+                    Binary::Shl => a << b,
+                    Binary::Sar if step.signed => (x >> b.min(<$unsigned>::BITS as $unsigned - 1)) as $unsigned,
+                    Binary::Shr | Binary::Sar if far => 0,
+                    Binary::Shr | Binary::Sar => a >> b,
+                    Binary::Lt => <$unsigned>::from(if step.signed { x < y } else { a < b }),
+                    Binary::Le => <$unsigned>::from(if step.signed { x <= y } else { a <= b }),
+                    Binary::Gt => <$unsigned>::from(if step.signed { x > y } else { a > b }),
+                    Binary::Ge => <$unsigned>::from(if step.signed { x >= y } else { a >= b }),
+                    Binary::Eq => <$unsigned>::from(a == b),
+                    Binary::Ne => <$unsigned>::from(a != b),
+                    Binary::And => a & b,
+                    Binary::Xor => a ^ b,
+                    Binary::Xnor => !(a ^ b),
+                    Binary::Or => a | b,
+                    Binary::LogicAnd => <$unsigned>::from(a != 0 && b != 0),
+                    Binary::LogicOr => <$unsigned>::from(a != 0 || b != 0),
+                }
+            }
+
+            let steps: Vec<Step> = steps(only, <$unsigned>::BITS)
+                .into_iter()
+                .map(|(op, a, b)| Step { op, a: a as $unsigned, b: b as $unsigned, signed })
+                .collect();
+            for _ in 0..10 {
+                let start = Instant::now();
+                let mut sum: u128 = 0;
+                for _ in 0..500 {
+                    for step in &steps {
+                        sum = sum.wrapping_add(u128::from(value(step)));
+                    }
+                }
+                let time = start.elapsed().as_nanos();
+                println!("{name} {} {signed} {sum} {time}", <$unsigned>::BITS);
+            }
+        }
+    };
+}
+
+machine!(short, u32, i32);
+machine!(middle, u64, i64);
+machine!(long, u128, i128);
+
+fn main() {
+    for report in [short, middle, long] {
+        for (name, op) in OPS {
+            report(name, Some(op), false);
+        }
+        report("mixed", None, false);
+        report("mixed", None, true);
+        report("<", Some(Binary::Lt), true);
+        report(">>>", Some(Binary::Sar), true);
+        report("/", Some(Binary::Div), true);
+    }
+}
