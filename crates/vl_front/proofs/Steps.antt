@@ -1,7 +1,7 @@
 -- From what the readers of tokens and trees answer to what stands of the text.
-use Rattle.std.proofs.Common.{◌≡◌, ℕ, true, false, List, Ok, refl, sym, ap, subst, ◌∙◌}
-use Rattle.vl_lex.specs.Bytes.{is_plain}
-use Rattle.vl_lex.specs.Tokens.{tokens_of}
+use Rattle.std.proofs.Common.{◌≡◌, ℕ, true, false, List, Ok, sym, ap, subst, ◌∙◌}
+use Rattle.plain_lex.specs.Bytes.{is_plain}
+use Rattle.plain_lex.specs.Tokens.{tokens_of}
 use Rattle.vl_tree.specs.Token.{Tokens}
 use Rattle.vl_tree.specs.Tree.{Module}
 use Rattle.vl_tree.specs.Grammar.{Derives}

@@ -1,7 +1,7 @@
 -- Which texts are designs: one module with one clocked block, without backtick or comment, and without static fault.
-use Rattle.std.specs.Prelude.{◌≡◌, ℕ, true, List, Result, Ok, Err}
-use Rattle.vl_lex.specs.Bytes.{is_plain}
-use Rattle.vl_lex.specs.Tokens.{tokens_of}
+use Rattle.std.specs.Prelude.{◌≡◌, ℕ, true, List, Ok}
+use Rattle.plain_lex.specs.Bytes.{is_plain}
+use Rattle.plain_lex.specs.Tokens.{tokens_of}
 use Rattle.vl_tree.specs.Token.{Tokens}
 use Rattle.vl_tree.specs.Tree.{Module}
 use Rattle.vl_tree.specs.Grammar.{Derives}

@@ -1,6 +1,6 @@
 //! From the text of a design to its numbered design.
 //!
-//! Below: `vl_lex` (tokens), `vl_module` (tree), `vl_scope` (static faults), `vl_proc` (numbered design). Above: `dessert`.
+//! Below: `plain_lex` (tokens), `vl_module` (tree), `vl_scope` (static faults), `vl_proc` (numbered design). Above: `dessert`.
 //! Promise: `read_design` accepts exactly the texts of modules with one clocked block and without static fault
 //! (`specs/OneCounter`), and its design stands for the module (`StandsFor` of `vl_meaning`).
 //! Not said: which fault a refused text has; that memory is enough.
@@ -14,8 +14,8 @@ mod tests;
 
 use dt_core::fault::NoMemory;
 use flat_ir::flat::Flat;
+use plain_lex::LexFault;
 use std::alloc::Global;
-use vl_lex::LexFault;
 use vl_module::SynFault;
 
 /// Why a text gives no design.
@@ -31,10 +31,10 @@ pub fn read_design(alloc: Global, text: &[u8]) -> Result<Flat, DesignFault>
     requires { length text.now < 2 ^ 32 - 1 }
     ensures { Reads text.now result }
 {
-    if !vl_lex::is_plain(text) {
+    if !plain_lex::is_plain(text) {
         return Err(DesignFault::NotYetBuilt);
     }
-    let tokens = match vl_lex::lex(alloc, text) {
+    let tokens = match plain_lex::lex(alloc, text) {
         Ok(tokens) => tokens,
         Err(LexFault::NoTokens) => return Err(DesignFault::NotYetBuilt),
         Err(LexFault::Memory) => return Err(DesignFault::Memory),

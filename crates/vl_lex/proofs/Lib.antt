@@ -1,5 +1,10 @@
-pub mod NumberLaws
-pub mod StringLaws
-pub mod LineLaws
-pub mod LoopLaws
+mod DigitLaws
+mod NumberLaws
+mod StringLaws
+mod AttributeLaws
+mod PieceLaws
+mod LoopLaws
+mod SpelledLaws
+mod LongestLaws
+mod LongestToken
 mod TokenExamples

@@ -1,23 +1,23 @@
--- The value of digits, as they are read.
-use Rattle.std.proofs.Common.{◌≡◌, ◌≤◌, ◌<◌, ◌+◌, ◌*◌, ◌==◌, ℕ, suc, Bool, true, false, if◌then◌else◌, List, [], ◌∷◌, ap, arith, get_or, drop, length}
-use Rattle.std.proofs.Math.Seq.{drop-cons}
-use Rattle.std.proofs.Math.Nat.{mul-le-mul_left}
-use Rattle.vl_lex.specs.Numbers.{value_behind, digit_value}
+-- A number without a base.
+use Rattle.std.proofs.Common.{◌≡◌, ℕ, List, [], ◌∷◌, refl, sym, ap, subst, ◌∙◌, take, drop, None}
+use Rattle.std.specs.Prelude.{Result}
+use Rattle.std.specs.List.{prefix_len}
+use Rattle.vl_lex.specs.Numbers.{is_in_decimal, format_at, plain_number, number_by, number_at}
+use Rattle.vl_lex.specs.Reading.{Tells}
+use Rattle.vl_lex.specs.declared.faults.Wrong.{Wrong}
+use Rattle.vl_lex.specs.declared.numbers.Number.{Number}
 
--- behind a number stand no lesser ones
-grows : (r n : ℕ) (bs : List ℕ) → 0 < r → n ≤ value_behind r n bs
-grows r n [] h = omega arith
-grows r n (b ∷ bs) h =
-    let F : Bool → Type 0 = λ e. n ≤ value_behind r (if e then n else n * r + digit_value b) bs in
-    elim (b == 95) as F [
-      | true ↦ grows r n bs h
-      | false ↦ let g = grows r (n * r + digit_value b) bs h in let k : n * 1 ≤ n * r = mul-le-mul_left n h in omega (arith, g, k)
-    ]
+no_base : (size rest : List ℕ) → (size ≡ [] → ⊥) → number_by size None rest ≡ plain_number size rest
+no_base [] rest h = absurd (h refl)
+no_base (b ∷ bs) rest h = refl
 
--- a number that is too great with this digit is too great, whatever follows
-pub too_great : (r n i most : ℕ) (ds : List ℕ) → 0 < r → i < length ds → most ≤ (if get_or ds i 0 == 95 then n else n * r + digit_value (get_or ds i 0)) → most ≤ value_behind r n (drop i ds)
-too_great r n i most ds h lt m =
-    let x : ℕ = if get_or ds i 0 == 95 then n else n * r + digit_value (get_or ds i 0) in
-    let g : x ≤ value_behind r x (drop (suc i) ds) = grows r x (drop (suc i) ds) h in
-    let e : value_behind r n (drop i ds) ≡ value_behind r x (drop (suc i) ds) = ap (value_behind r n) (drop-cons ds i 0 lt) in
-    omega (arith, g, e, m)
+-- behind digits without an apostrophe and a base, the number is plain
+pub tells_plain : (bs size rest : List ℕ) (n : ℕ) (r : Result Number Wrong) → n ≡ prefix_len is_in_decimal bs → size ≡ take n bs → rest ≡ drop n bs → format_at rest ≡ None → (size ≡ [] → ⊥)
+    → Tells (plain_number size rest) r → Tells (number_at bs) r
+tells_plain bs size rest n r e s t f some tells =
+    let k : ℕ = prefix_len is_in_decimal bs in
+    let s' : take k bs ≡ size = ap (λ x. take x bs) (sym e) ∙ sym s in
+    let t' : drop k bs ≡ rest = ap (λ x. drop x bs) (sym e) ∙ sym t in
+    let g : number_at bs ≡ plain_number size rest =
+    ap (λ x. number_by x (format_at (drop k bs)) (drop k bs)) s' ∙ ap (λ x. number_by size (format_at x) x) t' ∙ ap (λ x. number_by size x rest) f ∙ no_base size rest some in
+    subst (λ x. Tells x r) (sym g) tells

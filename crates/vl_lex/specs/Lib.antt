@@ -1,7 +1,9 @@
-pub mod Bytes
 pub mod Faults
 pub mod Words
+pub mod Digits
 pub mod Numbers
 pub mod Strings
+pub mod Attributes
 pub mod Tokens
+pub mod Spelled
 pub mod Reading

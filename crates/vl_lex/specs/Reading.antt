@@ -1,92 +1,180 @@
 -- What the readers answer, beside what the definition says. This project's own.
-use Rattle.std.specs.Prelude.{ℕ, ◌^◌, ◌==◌, ◌<◌, ◌≤◌, ◌≡◌, nat_le, ◌||◌, List, [], ◌∷◌, ◌++◌, map, length, Option, Some, None, Result, Ok, Err, IsErr, IsTrue}
+use Rattle.std.specs.Prelude.{ℕ, ◌^◌, ◌<◌, ◌≤◌, ◌≡◌, List, [], ◌∷◌, ◌++◌, ◌⊎◌, map, length, Option, Some, None, Result, Ok, Err}
 use Rattle.vl_tree.specs.declared.token.Mark.{Mark}
 use Rattle.vl_tree.specs.declared.token.Literal as literal
 use Rattle.vl_tree.specs.declared.token.Token as code
+use Rattle.vl_tree.specs.declared.token.TokenKind.{TokenKind}
 use Rattle.vl_tree.specs.Token.{mark, Tokens, Literal, literal_of, coded_kind}
-use Rattle.vl_lex.specs.Faults.{FaultKind, bad_token, Fault}
-use Rattle.vl_lex.specs.Numbers.{Counted}
-use Rattle.vl_lex.specs.Tokens.{Spelled, mark_token, most_tokens}
-use Rattle.vl_lex.specs.declared.LexFault.{LexFault}
-use Rattle.vl_lex.specs.declared.LexFault.TheVariants as f
+use Rattle.std.specs.Borrow.{Bor}
+use Rattle.vl_lex.specs.Faults.{FaultKind, bad_token, bad_number, too_wide, open_string, too_many_tokens, Fault}
+use Rattle.vl_lex.specs.Numbers as n
+use Rattle.vl_lex.specs.Tokens as t
+use Rattle.vl_lex.specs.declared.faults.LexFault.{LexFault}
+use Rattle.vl_lex.specs.declared.faults.LexFault.TheVariants as f
+use Rattle.vl_lex.specs.declared.faults.Wrong.{Wrong}
+use Rattle.vl_lex.specs.declared.faults.Wrong.TheVariants as wrong
+use Rattle.vl_lex.specs.declared.numbers.Format.{Format}
 use Rattle.vl_lex.specs.declared.numbers.Number.{Number}
-use Rattle.vl_lex.specs.declared.strings.Piece.{Piece}
+use Rattle.vl_lex.specs.declared.strings.Character.{Character}
 use Rattle.vl_lex.specs.declared.strings.Quoted.{Quoted}
 use Rattle.vl_lex.specs.declared.tokens.Found.{Found}
-use Rattle.vl_lex.specs.declared.words.Entry.{Entry}
+use Rattle.vl_lex.specs.declared.pieces.Piece as code_piece
+
+-- ---- faults
+
+-- the fault of a text that a reader's fault on this line is
+abbrev pub fault_on : Wrong → ℕ → LexFault
+fault_on wrong.BadToken line = f.BadToken line
+fault_on wrong.BadNumber line = f.BadNumber line
+fault_on wrong.TooWide line = f.TooWide line
+fault_on wrong.OpenString line = f.OpenString line
+fault_on wrong.Memory line = f.Memory
+
+-- the definition has this fault too; no memory is wanted
+abbrev pub HasFault : {X : Type 0} → Result X FaultKind → Wrong → Type 0
+HasFault r wrong.BadToken = r ≡ Err bad_token
+HasFault r wrong.BadNumber = r ≡ Err bad_number
+HasFault r wrong.TooWide = r ≡ Err too_wide
+HasFault r wrong.OpenString = r ≡ Err open_string
+HasFault r wrong.Memory = ⊥
+
+-- the definition has this fault too, or memory was wanted
+abbrev pub IsWrong : {X : Type 0} → Result X FaultKind → Wrong → Type 0
+IsWrong r wrong.BadToken = r ≡ Err bad_token
+IsWrong r wrong.BadNumber = r ≡ Err bad_number
+IsWrong r wrong.TooWide = r ≡ Err too_wide
+IsWrong r wrong.OpenString = r ≡ Err open_string
+IsWrong r wrong.Memory = Unit {0}
+
+-- a fault of this kind on this line
+abbrev pub fault : FaultKind → ℕ → Fault
+fault kind line = record { kind = kind; line = line }
+
+-- the text has this fault first, or memory was wanted
+abbrev pub IsFirst : Result Tokens Fault → LexFault → Type 0
+IsFirst r (f.BadToken line) = r ≡ Err (fault bad_token line)
+IsFirst r (f.BadNumber line) = r ≡ Err (fault bad_number line)
+IsFirst r (f.TooWide line) = r ≡ Err (fault too_wide line)
+IsFirst r (f.OpenString line) = r ≡ Err (fault open_string line)
+IsFirst r (f.TooManyTokens line) = r ≡ Err (fault too_many_tokens line)
+IsFirst r f.Memory = Unit {0}
+
+-- ---- words
 
 -- a table of the code as that of the definition
-abbrev pub pairs : {T : Type 0} → List (Entry T) → List (List ℕ × T)
-pairs = map (λ e. (e.word.now, e.meaning))
-
--- the definition has a fault too, or memory was wanted
-abbrev pub IsFault : {X E : Type 0} → Result X E → LexFault → Type 0
-IsFault r f.NoTokens = IsErr r
-IsFault r f.Memory = Unit {0}
-
--- the definition has a fault, or memory was wanted
-abbrev pub IsRefused : Result Tokens Fault → LexFault → Type 0
-IsRefused r f.NoTokens = (a : Fault) × (r ≡ Err a)
-IsRefused r f.Memory = Unit {0}
+abbrev pub pairs : {T : Type 0} → List (Bor (List ℕ) × T) → List (List ℕ × T)
+pairs = map (λ e. (e.0.now, e.1))
 
 -- the first of these marks with which the bytes begin, none longer than the bytes
-abbrev pub FindsMark : List (List ℕ × Mark) → List ℕ → Option (Entry Mark) → Type 0
-FindsMark ms bs None = mark_token ms bs ≡ Err bad_token
-FindsMark ms bs (Some e) = (mark_token ms bs ≡ Ok (mark e.meaning, length e.word.now)) × (length e.word.now ≤ length bs)
+abbrev pub FindsMark : List (List ℕ × Mark) → List ℕ → Option (Mark × ℕ) → Type 0
+FindsMark ms bs None = t.mark_token ms bs ≡ Err bad_token
+FindsMark ms bs (Some e) = (t.mark_token ms bs ≡ Ok (mark e.0, e.1)) × (e.1 ≤ length bs)
+
+-- ---- numbers
 
 -- the number where it is below 2^128, and none where it isn't
 abbrev pub IsValue : ℕ → Option ℕ → Type 0
 IsValue v None = 2 ^ 128 ≤ v
 IsValue v (Some x) = x ≡ v
 
--- the number where it is a width, 1 to 128, and none where it isn't
-abbrev pub IsWidth : ℕ → Option ℕ → Type 0
-IsWidth v None = IsTrue (v == 0 || nat_le 129 v)
-IsWidth v (Some w) = (w ≡ v) × (1 ≤ w) × (w ≤ 128)
+-- the number where it is a width, 1 to 128, and else whether it is too small or too great
+abbrev pub IsWidth : ℕ → Result ℕ Wrong → Type 0
+IsWidth v (Ok w) = (w ≡ v) × (1 ≤ w) × (w ≤ 128)
+IsWidth v (Err wrong.BadNumber) = v ≡ 0
+IsWidth v (Err wrong.TooWide) = 129 ≤ v
+IsWidth v (Err _) = ⊥
 
--- the literal, or none where the definition has a fault
-abbrev pub IsLiteral : Result Literal FaultKind → Option literal.Literal → Type 0
-IsLiteral r (Some l) = r ≡ Ok (literal_of l)
-IsLiteral r None = IsErr r
+-- a format of the code as that of the definition
+abbrev pub format_of : Format → n.Format
+format_of x = record { signed = x.signed; base = x.base; used = x.used }
 
--- the number with how many bytes it has, or none where the definition has a fault
-abbrev pub Tells : Counted → Option Number → Type 0
-Tells r (Some x) = r ≡ Ok (literal_of x.literal, x.used)
-Tells r None = IsErr r
+-- the format, or none where the definition has none
+abbrev pub IsFormat : Option n.Format → Option Format → Type 0
+IsFormat r (Some x) = r ≡ Some (format_of x)
+IsFormat r None = r ≡ None
+
+-- the literal, or the definition's fault
+abbrev pub IsLiteral : Result Literal FaultKind → Result literal.Literal Wrong → Type 0
+IsLiteral r (Ok l) = r ≡ Ok (literal_of l)
+IsLiteral r (Err w) = HasFault r w
+
+-- the number with how many bytes it has, or the definition's fault
+abbrev pub Tells : n.Counted → Result Number Wrong → Type 0
+Tells r (Ok x) = r ≡ Ok (literal_of x.literal, x.used)
+Tells r (Err w) = HasFault r w
+
+-- ---- strings
 
 -- the byte of an escape with how many bytes it has, or none where the definition has none
-abbrev pub IsPiece : Option (ℕ × ℕ) → Option Piece → Type 0
-IsPiece r (Some p) = r ≡ Some (p.byte, p.used)
-IsPiece r None = r ≡ None
+abbrev pub IsCharacter : Option (ℕ × ℕ) → Option Character → Type 0
+IsCharacter r (Some p) = r ≡ Some (p.byte, p.used)
+IsCharacter r None = r ≡ None
 
--- the definition has a fault too; no memory is wanted
-abbrev pub HasFault : {X E : Type 0} → Result X E → LexFault → Type 0
-HasFault r f.NoTokens = IsErr r
-HasFault r f.Memory = ⊥
+-- the character of a string, or its end, or the definition's fault
+abbrev pub IsCharacterOrEnd : Result (Option (ℕ × ℕ)) FaultKind → Result (Option Character) Wrong → Type 0
+IsCharacterOrEnd r (Ok (Some p)) = r ≡ Ok (Some (p.byte, p.used))
+IsCharacterOrEnd r (Ok None) = r ≡ Ok None
+IsCharacterOrEnd r (Err w) = HasFault r w
 
--- the piece of a string, or its end, or a fault where the definition has one
-abbrev pub IsPieceOrEnd : Result (Option (ℕ × ℕ)) FaultKind → Result (Option Piece) LexFault → Type 0
-IsPieceOrEnd r (Ok (Some p)) = r ≡ Ok (Some (p.byte, p.used))
-IsPieceOrEnd r (Ok None) = r ≡ Ok None
-IsPieceOrEnd r (Err e) = HasFault r e
-
--- the bytes of a string with how many bytes spell them, or a fault where the definition has one
-abbrev pub Quotes : Result (List ℕ × ℕ) FaultKind → Result Quoted LexFault → Type 0
+-- the bytes of a string with how many bytes spell them, or its fault
+abbrev pub Quotes : Result (List ℕ × ℕ) FaultKind → Result Quoted Wrong → Type 0
 Quotes r (Ok x) = r ≡ Ok (x.text, x.used)
-Quotes r (Err e) = IsFault r e
+Quotes r (Err w) = IsWrong r w
 
--- the kind of token with how many bytes spell it, or none where the definition has a fault
-abbrev pub Finds : Spelled → Option Found → Type 0
-Finds r (Some x) = r ≡ Ok (coded_kind x.kind, x.used)
-Finds r None = IsErr r
+-- ---- tokens
+
+-- the kind of token with how many bytes spell it, or its fault
+abbrev pub SpellsAlone : t.Spelled → Result Found Wrong → Type 0
+SpellsAlone r (Ok x) = r ≡ Ok (coded_kind x.kind, x.used)
+SpellsAlone r (Err w) = HasFault r w
 
 -- the same, where the names and strings of a token want memory
-abbrev pub Spells : Spelled → Result Found LexFault → Type 0
+abbrev pub Spells : t.Spelled → Result Found Wrong → Type 0
 Spells r (Ok x) = r ≡ Ok (coded_kind x.kind, x.used)
-Spells r (Err e) = IsFault r e
+Spells r (Err w) = IsWrong r w
 
--- the token was appended, or there were as many as there may be, or memory was wanted
+-- a piece of the code as that of the definition
+abbrev pub piece_of : Option TokenKind → ℕ → t.Piece
+piece_of None n = t.gap n
+piece_of (Some k) n = t.spelt (coded_kind k) n
+
+-- the piece, or its fault
+abbrev pub Stands : Result t.Piece FaultKind → Result code_piece.Piece Wrong → Type 0
+Stands r (Ok p) = r ≡ Ok (piece_of p.token p.used)
+Stands r (Err w) = IsWrong r w
+
+-- why no token of this line was appended: there were as many as there may be, or memory was wanted
+abbrev pub PushFails : List code.Token → ℕ → LexFault → Type 0
+PushFails old line (f.TooManyTokens l) = (t.most_tokens ≤ length old) × (l ≡ line)
+PushFails old line f.Memory = Unit {0}
+PushFails old line _ = ⊥
+
+-- the token was appended, or it wasn't, and why
 abbrev pub Pushes : List code.Token → code.Token → List code.Token → Result (Unit {0}) LexFault → Type 0
-Pushes old t new (Ok _) = (new ≡ old ++ t ∷ []) × (length old < most_tokens)
-Pushes old t new (Err f.NoTokens) = most_tokens ≤ length old
-Pushes old t new (Err f.Memory) = Unit {0}
+Pushes old a new (Ok _) = (new ≡ old ++ a ∷ []) × (length old < t.most_tokens)
+Pushes old a new (Err e) = PushFails old a.line e
+
+-- the token of a piece on this line was appended, if it has one, or it wasn't, and why
+abbrev pub Takes : List code.Token → ℕ → Option TokenKind → ℕ → List code.Token → Result ℕ LexFault → Type 0
+Takes old line None used new (Ok n) = (n ≡ used) × (new ≡ old)
+Takes old line None used new (Err e) = ⊥
+Takes old line (Some k) used new (Ok n) = (n ≡ used) × (new ≡ old ++ record { line = line; kind = k } ∷ []) × (length old < t.most_tokens)
+Takes old line (Some k) used new (Err e) = PushFails old line e
+
+-- none stands there, and why, or memory was wanted
+abbrev pub IsFault : Result t.Piece FaultKind → ℕ → LexFault → Type 0
+IsFault r line (f.BadToken l) = (r ≡ Err bad_token) × (l ≡ line)
+IsFault r line (f.BadNumber l) = (r ≡ Err bad_number) × (l ≡ line)
+IsFault r line (f.TooWide l) = (r ≡ Err too_wide) × (l ≡ line)
+IsFault r line (f.OpenString l) = (r ≡ Err open_string) × (l ≡ line)
+IsFault r line (f.TooManyTokens l) = ⊥
+IsFault r line f.Memory = Unit {0}
+
+-- the same of an answer
+abbrev pub NoneStands : Result t.Piece FaultKind → ℕ → Result ℕ LexFault → Type 0
+NoneStands r line (Ok n) = ⊥
+NoneStands r line (Err e) = IsFault r line e
+
+-- the piece at the head was taken, or it wasn't, and why
+abbrev pub Steps : List code.Token → ℕ → Result t.Piece FaultKind → List code.Token → Result ℕ LexFault → Type 0
+Steps old line r new x = ((k : Option TokenKind) × (n : ℕ) × (r ≡ Ok (piece_of k n)) × Takes old line k n new x) ⊎ NoneStands r line x

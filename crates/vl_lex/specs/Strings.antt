@@ -1,9 +1,9 @@
 -- Strings: their spellings and the bytes that they stand for (IEEE 1364-2005, 3.6 and 3.6.3).
 use Rattle.std.specs.Prelude.{ℕ, zero, suc, ◌+◌, ◌==◌, nat_le, Bool, true, false, ◌&&◌, ◌||◌, if◌then◌else◌, List, [], ◌∷◌, take, drop, length, Option, Some, None, Result, Ok, Err}
 use Rattle.std.specs.List.{prefix_len}
-use Rattle.vl_lex.specs.Bytes.{between}
+use Rattle.vl_pre.specs.Bytes.{between}
 use Rattle.vl_lex.specs.Faults.{FaultKind, bad_token, open_string}
-use Rattle.vl_lex.specs.Numbers.{value_behind}
+use Rattle.vl_lex.specs.Digits.{value_of}
 
 -- `0` to `7`
 abbrev pub is_octal : ℕ → Bool
@@ -11,7 +11,7 @@ is_octal = between 48 55
 
 -- an octal escape of so many digits, one at least, up to 377
 abbrev pub octal_digits : ℕ → List ℕ → Option (ℕ × ℕ)
-octal_digits n bs = let b = value_behind 8 0 (take n bs) in
+octal_digits n bs = let b = value_of 8 (take n bs) in
     if n == 0 || nat_le 256 b then None else Some (b, n)
 
 -- an octal escape: the digits at the head, three at most
@@ -41,11 +41,11 @@ abbrev pub escaped : Option (ℕ × ℕ) → Result (Option (ℕ × ℕ)) FaultK
 escaped None = Err bad_token
 escaped (Some e) = Ok (Some (e.0, e.1 + 1))
 
--- the piece of a string at the head of these bytes: a byte of it and how many bytes spell it, or nothing at
+-- the character of a string at the head of these bytes: a byte of it and how many bytes spell it, or nothing at
 -- its closing quote
-abbrev pub piece_at : List ℕ → Result (Option (ℕ × ℕ)) FaultKind
-piece_at [] = Err open_string
-piece_at (b ∷ bs) =
+abbrev pub character_at : List ℕ → Result (Option (ℕ × ℕ)) FaultKind
+character_at [] = Err open_string
+character_at (b ∷ bs) =
     if ends_line (b ∷ bs) then Err open_string else
     if b == 34 then Ok None else
     if b == 92 then escaped (escape bs) else Ok (Some (b, 1))
@@ -55,18 +55,18 @@ abbrev pub longer : ℕ → ℕ → Result (List ℕ × ℕ) FaultKind → Resul
 longer b n (Ok s) = Ok (b ∷ s.0, n + s.1)
 longer b n (Err k) = Err k
 
--- a piece of a string, and what `more` reads behind it
-abbrev pub from_piece : Result (Option (ℕ × ℕ)) FaultKind → List ℕ → (List ℕ → Result (List ℕ × ℕ) FaultKind) → Result (List ℕ × ℕ) FaultKind
-from_piece (Err k) bs more = Err k
-from_piece (Ok None) bs more = Ok ([], 1)
-from_piece (Ok (Some p)) bs more = longer p.0 p.1 (more (drop p.1 bs))
+-- a character of a string, and what `more` reads behind it
+abbrev pub from_character : Result (Option (ℕ × ℕ)) FaultKind → List ℕ → (List ℕ → Result (List ℕ × ℕ) FaultKind) → Result (List ℕ × ℕ) FaultKind
+from_character (Err k) bs more = Err k
+from_character (Ok None) bs more = Ok ([], 1)
+from_character (Ok (Some p)) bs more = longer p.0 p.1 (more (drop p.1 bs))
 
 -- The bytes of the string behind whose first quote these stand, and how many of them it has, in at most n
--- pieces. The first of a line's end and another escape is the fault.
+-- characters. The first of a line's end and another escape is the fault.
 abbrev pub string_from : ℕ → List ℕ → Result (List ℕ × ℕ) FaultKind
 string_from zero bs = Err open_string
-string_from (suc n) bs = from_piece (piece_at bs) bs (string_from n)
+string_from (suc n) bs = from_character (character_at bs) bs (string_from n)
 
--- the same, where each piece takes a byte and the end one step
+-- the same, where each character takes a byte and the end one step
 abbrev pub string_at : List ℕ → Result (List ℕ × ℕ) FaultKind
 string_at bs = string_from (length bs + 1) bs

@@ -1,17 +1,18 @@
--- Tokens: what the text of a design is spelled of (IEEE 1364-2005, 3.1 to 3.7; limits are this project's own). Comments
--- (3.3) and attributes (3.8) have no rule here: their marks are tokens like others.
-use Rattle.std.specs.Prelude.{ℕ, zero, suc, ◌+◌, ◌==◌, nat_lt, nat_eq, Bool, true, false, if◌then◌else◌, List, [], ◌∷◌, ◌++◌, take, drop, length, Option, Some, None, Result, Ok, Err}
+-- Tokens: what clean text is spelled of (IEEE 1364-2005, 3.1 to 3.8; limits are this project's own).
+use Rattle.std.specs.Prelude.{ℕ, zero, suc, ◌+◌, ◌==◌, nat_lt, nat_eq, Bool, if◌then◌else◌, ◌||◌, List, [], ◌∷◌, ◌++◌, take, drop, length, Option, Some, None, Result, Ok, Err}
 use Rattle.std.specs.List.{starts_with, prefix_len}
 use Rattle.vl_tree.specs.declared.token.Key.{Key}
 use Rattle.vl_tree.specs.declared.token.Mark.{Mark}
 use Rattle.vl_tree.specs.declared.token.System.{System}
 use Rattle.vl_tree.specs.declared.token.System.TheVariants as s
 use Rattle.vl_tree.specs.Token.{Kind, name, system, number, str, key, mark, token, Tokens}
-use Rattle.vl_lex.specs.Bytes.{Placed, Text, placed, bytes, is_white, is_digit, begins_name, is_in_escaped, name_length}
+use Rattle.vl_pre.specs.Bytes.{Text, bytes, is_white, is_digit, begins_name, between, name_length}
 use Rattle.vl_lex.specs.Faults.{FaultKind, bad_token, too_many_tokens, Fault, unless}
 use Rattle.vl_lex.specs.Words.{entry, keys, marks, systems}
 use Rattle.vl_lex.specs.Numbers.{Counted, number_at}
 use Rattle.vl_lex.specs.Strings.{string_at}
+use Rattle.vl_lex.specs.Attributes.{opens_attribute, close_from}
+use Rattle.vl_lex.specs.declared.attributes.Within.TheVariants as within
 
 -- ---- one token
 
@@ -39,6 +40,10 @@ word_kind word = key_or_name (entry keys word) word
 -- a name or keyword
 abbrev pub name_token : List ℕ → Spelled
 name_token bs = let n = name_length bs in short n (word_kind (take n bs)) n
+
+-- a byte of an escaped name: printable, and no blank
+abbrev pub is_in_escaped : ℕ → Bool
+is_in_escaped = between 33 126
 
 -- an escaped name, behind its backslash: one byte of 33 to 126 at least, and never a keyword (3.7.1)
 abbrev pub escaped_token : List ℕ → Spelled
@@ -81,7 +86,7 @@ pub data Class : Type 0 where
 abbrev pub class_of : ℕ → Class
 class_of b =
     if begins_name b then of_name else
-    if is_digit b then of_number else
+    if is_digit b || b == 39 then of_number else
     if b == 36 then of_system else
     if b == 92 then of_escaped else
     if b == 34 then of_string else of_mark
@@ -100,6 +105,44 @@ abbrev pub token_at : List ℕ → Spelled
 token_at [] = Err bad_token
 token_at (b ∷ bs) = token_of (class_of b) (b ∷ bs)
 
+-- ---- pieces of a text
+
+-- a piece of a text with how many bytes it has: white space or an attribute, or a token
+pub data Piece : Type 0 where
+  gap : ℕ → Piece
+  spelt : Kind → ℕ → Piece
+
+-- what a piece begins with
+pub data Lead : Type 0 where
+  white : Lead
+  attribute : Lead
+  spelling : Lead
+
+-- which of them stands here
+abbrev pub lead_of : List ℕ → Lead
+lead_of [] = spelling
+lead_of (b ∷ bs) = if is_white b then white else if opens_attribute (b ∷ bs) then attribute else spelling
+
+-- an attribute, by how many bytes lead from behind its `(*` to its end
+abbrev pub attribute_piece : Option ℕ → Result Piece FaultKind
+attribute_piece None = Err bad_token
+attribute_piece (Some n) = Ok (gap (n + 2))
+
+-- a token as a piece
+abbrev pub token_piece : Spelled → Result Piece FaultKind
+token_piece (Ok a) = Ok (spelt a.0 a.1)
+token_piece (Err k) = Err k
+
+-- the piece by what it begins with
+abbrev pub piece_by : Lead → List ℕ → Result Piece FaultKind
+piece_by white bs = Ok (gap 1)
+piece_by attribute bs = attribute_piece (close_from within.Outside (drop 2 bs))
+piece_by spelling bs = token_piece (token_at bs)
+
+-- the piece at the head of these bytes, or why none stands there
+abbrev pub piece_at : List ℕ → Result Piece FaultKind
+piece_at bs = piece_by (lead_of bs) bs
+
 -- ---- all tokens
 
 -- the tokens before the first fault, and that fault
@@ -115,23 +158,19 @@ ahead ts l = record l { tokens = ts ++ l.tokens }
 abbrev pub stuck : FaultKind → ℕ → Lexed
 stuck kind line = record { tokens = []; fault = Some (record { kind = kind; line = line }) }
 
--- a token that begins on this line, or why none stands here, and what `more` reads behind it
-abbrev pub token_from : Spelled → ℕ → Text → (Text → Lexed) → Lexed
-token_from (Ok a) line ts more = ahead (token line a.0 ∷ []) (more (drop a.1 ts))
-token_from (Err k) line ts more = stuck k line
+-- a piece that begins on this line, or why none stands here, and what `more` reads behind it
+abbrev pub from_piece : Result Piece FaultKind → ℕ → Text → (Text → Lexed) → Lexed
+from_piece (Ok (gap n)) line ts more = more (drop n ts)
+from_piece (Ok (spelt k n)) line ts more = ahead (token line k ∷ []) (more (drop n ts))
+from_piece (Err k) line ts more = stuck k line
 
--- what stands here, white space (3.2) or not, and what `more` reads behind it
-abbrev pub lexed_here : Bool → Placed → Text → (Text → Lexed) → Lexed
-lexed_here true c ts more = more ts
-lexed_here false c ts more = token_from (token_at (bytes (c ∷ ts))) c.line (c ∷ ts) more
-
--- the tokens from here on, in at most n steps
+-- the tokens from here on, in at most n pieces; a token and its fault are on the line of its first byte
 abbrev pub lexed_from : ℕ → Text → Lexed
 lexed_from n [] = record { tokens = []; fault = None }
 lexed_from zero (c ∷ ts) = record { tokens = []; fault = None }
-lexed_from (suc n) (c ∷ ts) = lexed_here (is_white c.byte) c ts (lexed_from n)
+lexed_from (suc n) (c ∷ ts) = from_piece (piece_at (bytes (c ∷ ts))) c.line (c ∷ ts) (lexed_from n)
 
--- each step takes a byte, so the length bounds them
+-- each piece has a byte, so the length bounds them
 abbrev pub lexed : Text → Lexed
 lexed ts = lexed_from (length ts) ts
 
@@ -149,6 +188,6 @@ answer [] None found = Ok found
 abbrev pub at_most : ℕ → Lexed → Result Tokens Fault
 at_most most l = answer (drop most l.tokens) l.fault l.tokens
 
--- the tokens of the bytes of a text, or its first fault; lines count from 1
-abbrev pub tokens_of : List ℕ → Result Tokens Fault
-tokens_of text = at_most most_tokens (lexed (placed 1 text))
+-- the tokens of a clean text, or its first fault
+abbrev pub tokens_of : Text → Result Tokens Fault
+tokens_of ts = at_most most_tokens (lexed ts)

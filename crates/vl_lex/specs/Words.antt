@@ -26,11 +26,11 @@ grammar_keys =
 -- the keywords that no rule of the grammar uses
 abbrev pub unused_keys : List (List ℕ × Key)
 unused_keys =
-    (codes "inout", k.Unused) ∷ (codes "casex", k.Unused) ∷ (codes "task", k.Unused) ∷ (codes "fork", k.Unused) ∷ (codes "join", k.Unused) ∷
-    (codes "wait", k.Unused) ∷ (codes "force", k.Unused) ∷ (codes "release", k.Unused) ∷ (codes "deassign", k.Unused) ∷ (codes "while", k.Unused) ∷
-    (codes "repeat", k.Unused) ∷ (codes "forever", k.Unused) ∷ (codes "real", k.Unused) ∷ (codes "realtime", k.Unused) ∷ (codes "time", k.Unused) ∷
-    (codes "event", k.Unused) ∷ (codes "tri", k.Unused) ∷ (codes "wand", k.Unused) ∷ (codes "wor", k.Unused) ∷ (codes "supply0", k.Unused) ∷
-    (codes "supply1", k.Unused) ∷ (codes "defparam", k.Unused) ∷ (codes "specify", k.Unused) ∷ (codes "primitive", k.Unused) ∷ (codes "disable", k.Unused) ∷ []
+    (codes "inout", k.Inout) ∷ (codes "casex", k.Casex) ∷ (codes "task", k.Task) ∷ (codes "fork", k.Fork) ∷ (codes "join", k.Join) ∷
+    (codes "wait", k.Wait) ∷ (codes "force", k.Force) ∷ (codes "release", k.Release) ∷ (codes "deassign", k.Deassign) ∷ (codes "while", k.While) ∷
+    (codes "repeat", k.Repeat) ∷ (codes "forever", k.Forever) ∷ (codes "real", k.Real) ∷ (codes "realtime", k.Realtime) ∷ (codes "time", k.Time) ∷
+    (codes "event", k.Event) ∷ (codes "tri", k.Tri) ∷ (codes "wand", k.Wand) ∷ (codes "wor", k.Wor) ∷ (codes "supply0", k.Supply0) ∷
+    (codes "supply1", k.Supply1) ∷ (codes "defparam", k.Defparam) ∷ (codes "specify", k.Specify) ∷ (codes "primitive", k.Primitive) ∷ (codes "disable", k.Disable) ∷ []
 
 -- all keywords
 abbrev pub keys : List (List ℕ × Key)
@@ -39,15 +39,15 @@ keys = grammar_keys ++ unused_keys
 -- the marks, longer ones before those that they begin with
 abbrev pub marks : List (List ℕ × Mark)
 marks =
-    (codes "<<<", m.ArithmeticLeft) ∷ (codes ">>>", m.ArithmeticRight) ∷ (codes "===", m.CaseEqual) ∷ (codes "!==", m.CaseNotEqual) ∷
+    (codes "(", m.OpenParen) ∷ (codes ")", m.CloseParen) ∷ (codes ";", m.Semicolon) ∷ (codes ",", m.Comma) ∷ (codes "[", m.OpenBracket) ∷
+    (codes "]", m.CloseBracket) ∷ (codes "{", m.OpenBrace) ∷ (codes "}", m.CloseBrace) ∷ (codes ".", m.Dot) ∷ (codes ":", m.Colon) ∷
+    (codes "#", m.Hash) ∷ (codes "@", m.At) ∷ (codes "?", m.Question) ∷ (codes "*", m.Star) ∷ (codes "/", m.Slash) ∷
+    (codes "%", m.Percent) ∷ (codes "<<<", m.ArithmeticLeft) ∷ (codes ">>>", m.ArithmeticRight) ∷ (codes "===", m.CaseEqual) ∷ (codes "!==", m.CaseNotEqual) ∷
     (codes "<<", m.ShiftLeft) ∷ (codes ">>", m.ShiftRight) ∷ (codes "<=", m.LessEqual) ∷ (codes ">=", m.GreaterEqual) ∷ (codes "==", m.EqualEqual) ∷
-    (codes "!=", m.NotEqual) ∷ (codes "&&", m.AndAnd) ∷ (codes "||", m.OrOr) ∷ (codes "~&", m.Nand) ∷ (codes "~|", m.Nor) ∷ (codes "~^", m.Xnor) ∷
-    (codes "^~", m.Xnor) ∷ (codes "+:", m.PlusColon) ∷ (codes "-:", m.MinusColon) ∷
-    (codes "#", m.Hash) ∷ (codes "(", m.OpenParen) ∷ (codes ")", m.CloseParen) ∷ (codes "[", m.OpenBracket) ∷ (codes "]", m.CloseBracket) ∷
-    (codes "{", m.OpenBrace) ∷ (codes "}", m.CloseBrace) ∷ (codes ",", m.Comma) ∷ (codes ";", m.Semicolon) ∷ (codes ":", m.Colon) ∷ (codes ".", m.Dot) ∷
-    (codes "@", m.At) ∷ (codes "?", m.Question) ∷ (codes "=", m.Equals) ∷ (codes "*", m.Star) ∷ (codes "/", m.Slash) ∷ (codes "%", m.Percent) ∷
-    (codes "+", m.Plus) ∷ (codes "-", m.Minus) ∷ (codes "<", m.Less) ∷ (codes ">", m.Greater) ∷ (codes "&", m.And) ∷ (codes "|", m.Or) ∷
-    (codes "^", m.Xor) ∷ (codes "!", m.Not) ∷ (codes "~", m.Tilde) ∷ []
+    (codes "!=", m.NotEqual) ∷ (codes "&&", m.AndAnd) ∷ (codes "||", m.OrOr) ∷ (codes "~&", m.Nand) ∷ (codes "~|", m.Nor) ∷
+    (codes "~^", m.Xnor) ∷ (codes "^~", m.Xnor) ∷ (codes "+:", m.PlusColon) ∷ (codes "-:", m.MinusColon) ∷ (codes "=", m.Equals) ∷
+    (codes "+", m.Plus) ∷ (codes "-", m.Minus) ∷ (codes "<", m.Less) ∷ (codes ">", m.Greater) ∷ (codes "&", m.And) ∷
+    (codes "|", m.Or) ∷ (codes "^", m.Xor) ∷ (codes "!", m.Not) ∷ (codes "~", m.Tilde) ∷ []
 
 -- the system names that a rule uses, without their `$`
 abbrev pub systems : List (List ℕ × System)

@@ -1,8 +1,9 @@
 //! Bytes: their classes, and what stands at the head of a list of them.
 
-ghost use Rattle.std.specs.Prelude.{◌≡◌, ◌+◌, ◌-◌, ◌≤◌, ◌<◌, ◌^◌, ◌∷◌, [], length, take, drop, MatchOption};
+ghost use Rattle.std.specs.Prelude.{◌≡◌, ◌+◌, ◌≤◌, ◌∷◌, [], length, drop, MatchOption};
 ghost use Rattle.std.specs.List.{prefix_len};
-ghost use Rattle.vl_lex.specs.Bytes as b;
+ghost use Rattle.vl_pre.specs.Bytes as b;
+ghost use Rattle.vl_lex.specs.Tokens.{is_in_escaped};
 
 /// The first byte and those behind it.
 pub fn next(bytes: &[u8]) -> Option<(u8, &[u8])>
@@ -20,14 +21,6 @@ pub fn behind(bytes: &[u8], n: usize) -> &[u8]
     ensures { result.now ≡ drop n bytes.now }
 {
     bytes.split_at(n).1
-}
-
-/// The line behind a byte that stands on this line.
-pub fn line_behind(line: u32, byte: u8) -> u32
-    requires { line < 2 ^ 32 - 1 }
-    ensures { result ≡ b.line_behind line byte }
-{
-    if byte == b'\n' { line + 1 } else { line }
 }
 
 /// Space, tab, LF, FF and CR.
@@ -57,8 +50,8 @@ fn is_in_name(byte: u8) -> bool
     begins_name(byte) || is_digit(byte) || byte == b'$'
 }
 
-fn is_in_escaped(byte: u8) -> bool
-    ensures { result ≡ b.is_in_escaped byte }
+fn is_in_escaped_name(byte: u8) -> bool
+    ensures { result ≡ is_in_escaped byte }
 {
     byte >= 33 && byte <= 126
 }
@@ -95,29 +88,11 @@ fn name_length_by(first: u8, behind: &[u8]) -> usize
 
 /// How many bytes the escaped name behind a backslash has.
 pub fn escaped_length(bytes: &[u8]) -> usize
-    ensures count { result ≡ prefix_len b.is_in_escaped bytes.now }
+    ensures count { result ≡ prefix_len is_in_escaped bytes.now }
     ensures within { result ≤ length bytes.now }
 {
     bytes
         .iter()
-        .take_while(|byte| is_in_escaped(**byte))
+        .take_while(|byte| is_in_escaped_name(**byte))
         .count()
-}
-
-fn is_plain_byte(byte: u8) -> bool
-    ensures { result ≡ b.is_plain_byte byte }
-{
-    (is_white(byte) || byte >= 32 && byte <= 126) && byte != b'`'
-}
-
-/// Whether each byte is tab, LF, FF, CR or 32 to 126, and none a backtick.
-pub fn is_plain(text: &[u8]) -> bool
-    ensures { result ≡ b.is_plain text.now }
-{
-    for byte in text {
-        if !is_plain_byte(*byte) {
-            return false;
-        }
-    }
-    true
 }

@@ -1,43 +1,41 @@
-//! Tokens: the text of a design as the list of what it is spelled of.
+//! Tokens: the clean text of a design as the list of what it is spelled of.
 //!
-//! Below: `vl_tree` (the tokens), `dt_core`. Above: `vl_module` (tokens to tree), `vl_front`.
-//! Promise: `lex` gives exactly the tokens that `specs/Tokens` says, with the line of each, or says that there are none.
-//! Not read here: comments, attributes, directives, and numbers of a base other than ten. A number of another base is a
-//! fault; of a comment or an attribute the marks are given, which stand in no rule of the grammar.
-//! Not said: which fault a text has, and that memory is enough.
+//! Below: `vl_pre` (clean text), `vl_tree` (the tokens), `dt_core`. Above: `vl_front`.
+//! Promise: `lex` gives exactly the tokens that `specs/Tokens` says, with the line of each, or the first fault with its line. A text has
+//! one list of tokens at most, and each token has the longest spelling that begins where it stands (`token_laws`).
+//! Not said: that memory is enough.
 #![tactic(auto)]
 
-ghost use Rattle.std.specs.Prelude.{◌≡◌, ◌-◌, ◌^◌, ◌<◌, length, Ok, IfOk, IfErr};
+ghost use Rattle.std.specs.Prelude.{◌≡◌, ◌^◌, ◌≤◌, ◌<◌, ◌∷◌, ℕ, List, length, Ok, IfOk, IfErr};
 ghost use Rattle.vl_tree.specs.Token.{all_coded};
-ghost use Rattle.vl_lex.specs.Tokens.{tokens_of};
-ghost use Rattle.vl_lex.specs.Reading.{IsRefused, Pushes};
+ghost use Rattle.vl_pre.specs.Bytes.{joined};
+ghost use Rattle.vl_lex.specs.Tokens.{tokens_of, piece_at};
+ghost use Rattle.vl_lex.specs.Spelled.{ComputesTokens, HaveOneList, TakesLongest};
+ghost use Rattle.vl_lex.specs.Reading.{IsFirst, Pushes, Takes, Steps};
 
+mod attributes;
 mod bytes;
+mod digits;
+mod faults;
 mod numbers;
+mod pieces;
 mod strings;
 mod tokens;
 mod words;
 
-pub use bytes::is_plain;
-use bytes::{behind, is_white, line_behind, next};
 use dt_core::limits::MAX_TOKENS;
+pub use faults::LexFault;
+use pieces::{Piece, read_piece};
 use std::alloc::Global;
-use tokens::read_token;
+use vl_pre::Clean;
 use vl_tree::token::Token;
-
-/// Why there are no tokens: the text has a fault, or memory was wanted.
-#[derive(Clone, Copy, Debug, PartialEq, Eq)]
-pub enum LexFault {
-    NoTokens,
-    Memory,
-}
 
 // Appends a token, unless there are as many as there may be.
 fn push(tokens: &mut Vec<Token>, token: Token) -> Result<(), LexFault>
     ensures { Pushes tokens.old.items token tokens.new.items result }
 {
     if tokens.len() >= MAX_TOKENS as usize {
-        return Err(LexFault::NoTokens);
+        return Err(LexFault::TooManyTokens { line: token.line });
     }
     match tokens.push(token) {
         Ok(()) => Ok(()),
@@ -45,31 +43,62 @@ fn push(tokens: &mut Vec<Token>, token: Token) -> Result<(), LexFault>
     }
 }
 
-/// The tokens of a text.
-pub fn lex(alloc: Global, text: &[u8]) -> Result<Vec<Token>, LexFault>
-    requires { length text.now < 2 ^ 32 - 1 }
-    ensures tokens { IfOk result (λ v. tokens_of text.now ≡ Ok (all_coded v.items)) }
-    ensures none { IfErr result (λ e. IsRefused (tokens_of text.now) e) }
+// Appends the token of a piece that begins on this line, if it has one, and answers how many bytes the piece has.
+fn take(tokens: &mut Vec<Token>, line: u32, piece: Piece) -> Result<usize, LexFault>
+    ensures { Takes tokens.old.items line piece.token piece.used tokens.new.items result }
+{
+    let used = piece.used;
+    let token = piece.token;
+    match token {
+        None => Ok(used),
+        Some(kind) => {
+            push(tokens, Token { line, kind })?;
+            Ok(used)
+        }
+    }
+}
+
+// Takes the piece at the head of these bytes, which begin on this line, and answers how many bytes it has.
+fn step(alloc: Global, tokens: &mut Vec<Token>, line: u32, bytes: &[u8]) -> Result<usize, LexFault>
+    requires some { 0 < length bytes.now }
+    ensures steps { Steps tokens.old.items line (piece_at bytes.now) tokens.new.items result }
+    ensures used { IfOk result (λ n. (0 < n) × (n ≤ length bytes.now)) }
+{
+    match read_piece(alloc, bytes[0], bytes) {
+        Ok(piece) => take(tokens, line, piece),
+        Err(wrong) => Err(wrong.on_line(line)),
+    }
+}
+
+// The tokens of bytes with a line for each.
+fn lex_lines(alloc: Global, bytes: &[u8], lines: &[u32]) -> Result<Vec<Token>, LexFault>
+    requires { length bytes.now ≡ length lines.now }
+    ensures tokens { IfOk result (λ v. tokens_of (joined bytes.now lines.now) ≡ Ok (all_coded v.items)) }
+    ensures fault { IfErr result (λ e. IsFirst (tokens_of (joined bytes.now lines.now)) e) }
 {
     let mut tokens = Vec::new(alloc);
-    let mut rest = text;
-    let mut line = 1;
-    while let Some((first, after)) = next(rest) {
-        if is_white(first) {
-            line = line_behind(line, first);
-            rest = after;
-        } else {
-            let found = read_token(alloc, first, rest)?;
-            let token = Token {
-                line,
-                kind: found.kind,
-            };
-            push(&mut tokens, token)?;
-            rest = behind(rest, found.used);
-        }
+    let mut at = 0;
+    while at < bytes.len() {
+        at += step(alloc, &mut tokens, lines[at], bytes.split_at(at).1)?;
     }
     Ok(tokens)
 }
+
+/// The tokens of a clean text, or its first fault.
+pub fn lex(alloc: Global, clean: &Clean) -> Result<Vec<Token>, LexFault>
+    ensures tokens { IfOk result (λ v. tokens_of clean.now ≡ Ok (all_coded v.items)) }
+    ensures fault { IfErr result (λ e. IsFirst (tokens_of clean.now) e) }
+{
+    lex_lines(alloc, clean.bytes(), clean.lines())
+}
+
+/// Laws of the definition: what is computed is what the text is spelled of, in both directions; a text has one list of tokens at most;
+/// each token has the longest spelling that begins where it stands.
+pub fn token_laws()
+    ensures computes { ComputesTokens }
+    ensures one { HaveOneList }
+    ensures longest { TakesLongest }
+{}
 
 #[cfg(test)]
 mod tests;

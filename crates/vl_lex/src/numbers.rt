@@ -1,13 +1,24 @@
-//! Numbers: plain decimals and decimals with a size, and their values.
+//! Numbers: plain decimals and based numbers, and what they say.
 
-ghost use Rattle.std.specs.Prelude.{◌≡◌, ◌+◌, ◌-◌, ◌*◌, ◌%◌, ◌^◌, ◌≤◌, ◌<◌, ◌==◌, if◌then◌else◌, ℕ, ◌∷◌, length, IfSome};
+ghost use Rattle.std.specs.Prelude.{◌==◌, ◌≡◌, ◌+◌, ◌^◌, ◌≤◌, ◌<◌, ℕ, ◌∷◌, length, IfOk, IfSome};
 ghost use Rattle.std.specs.List.{prefix_len};
 ghost use Rattle.vl_lex.specs.Numbers as n;
-ghost use Rattle.vl_lex.specs.Reading.{IsValue, IsWidth, IsLiteral, Tells};
+ghost use Rattle.vl_lex.specs.Digits.{value_of};
+ghost use Rattle.vl_lex.specs.Reading.{IsWidth, IsLiteral, IsFormat, Tells, format_of};
 
 use crate::bytes::{begins_name, behind, is_digit, next};
+use crate::digits::{Base, digits_value, is_digit_of, is_x, is_z, low_bits, wild_bits};
+use crate::faults::Wrong;
 use dt_core::limits::MAX_WIDTH;
 use vl_tree::token::Literal;
+
+/// What stands between the size and the digits of a based number, with how many bytes it has.
+#[derive(Clone, Copy)]
+pub struct Format {
+    pub signed: bool,
+    pub base: Base,
+    pub used: usize,
+}
 
 /// A number and how many bytes its spelling has.
 #[derive(Clone, Copy)]
@@ -16,84 +27,71 @@ pub struct Number {
     pub used: usize,
 }
 
-fn is_in_digits(byte: u8) -> bool
-    ensures { result ≡ n.is_in_digits n.decimal byte }
+fn is_in_decimal(byte: u8) -> bool
+    ensures { result ≡ n.is_in_decimal byte }
 {
     is_digit(byte) || byte == b'_'
 }
 
 // How many digits and `_` stand at the head.
-fn count_digits(bytes: &[u8]) -> usize
-    ensures count { result ≡ prefix_len (n.is_in_digits n.decimal) bytes.now }
+fn count_decimal(bytes: &[u8]) -> usize
+    ensures count { result ≡ prefix_len n.is_in_decimal bytes.now }
     ensures within { result ≤ length bytes.now }
 {
-    bytes.iter().take_while(|byte| is_in_digits(**byte)).count()
+    bytes
+        .iter()
+        .take_while(|byte| is_in_decimal(**byte))
+        .count()
 }
 
-fn is_x(byte: u8) -> bool
-    ensures { result ≡ n.is_x byte }
+fn is_in_digits(base: Base, byte: u8) -> bool
+    ensures { result ≡ n.is_in_digits base byte }
 {
-    byte == b'x' || byte == b'X'
+    is_digit_of(base, byte) || byte == b'_'
 }
 
-fn is_z(byte: u8) -> bool
-    ensures { result ≡ n.is_z byte }
+// How many digits of the base and `_` stand at the head.
+fn count_digits(base: Base, bytes: &[u8]) -> usize
+    ensures count { result ≡ prefix_len (n.is_in_digits base) bytes.now }
+    ensures within { result ≤ length bytes.now }
 {
-    byte == b'z' || byte == b'Z' || byte == b'?'
+    bytes
+        .iter()
+        .take_while(|byte| is_in_digits(base, **byte))
+        .count()
 }
 
-// How many digits stand at the head behind a base: the first isn't `_`, and an `x` or `z` is alone.
-fn digits_length(bytes: &[u8]) -> usize
-    ensures count { result ≡ n.digits_length n.decimal bytes.now }
+// How many `_` stand at the head.
+fn count_gaps(bytes: &[u8]) -> usize
+    ensures count { result ≡ prefix_len (λ c. c == 95) bytes.now }
+    ensures within { result ≤ length bytes.now }
+{
+    bytes.iter().take_while(|byte| **byte == b'_').count()
+}
+
+// How many bytes of digits stand behind a base: the first isn't `_`, and of digits a decimal `x` or `z` is alone.
+fn digits_length(base: Base, bytes: &[u8]) -> usize
+    ensures count { result ≡ n.digits_length base bytes.now }
     ensures within { result ≤ length bytes.now }
 {
     match next(bytes) {
-        Some((first, behind)) => digits_length_by(first, behind),
+        Some((first, behind)) => digits_length_by(base, first, behind),
         None => 0,
     }
 }
 
 // The same, by the first byte and those behind it.
-fn digits_length_by(first: u8, behind: &[u8]) -> usize
-    ensures count { result ≡ n.digits_length n.decimal (first ∷ behind.now) }
+fn digits_length_by(base: Base, first: u8, behind: &[u8]) -> usize
+    ensures count { result ≡ n.digits_length base (first ∷ behind.now) }
     ensures within { result ≤ length behind.now + 1 }
 {
-    if is_digit(first) {
-        count_digits(behind) + 1
+    if is_digit_of(base, first) {
+        count_digits(base, behind) + 1
     } else if is_x(first) || is_z(first) {
-        1
+        count_gaps(behind) + 1
     } else {
         0
     }
-}
-
-fn digit_value(byte: u8) -> u8
-    ensures { result ≡ n.digit_value byte }
-{
-    if is_digit(byte) { byte - b'0' } else { 0 }
-}
-
-// The value with one more digit, if it is below 2^128; `_` is no digit.
-fn with_digit(radix: u128, value: u128, byte: u8) -> Option<u128>
-    ensures { IsValue (if byte == 95 then value else value * radix + n.digit_value byte) result }
-{
-    if byte == b'_' {
-        return Some(value);
-    }
-    let scaled = value.checked_mul(radix)?;
-    scaled.checked_add(u128::from(digit_value(byte)))
-}
-
-/// The value of digits, if it is below 2^128.
-pub fn digits_value(radix: u128, digits: &[u8]) -> Option<u128>
-    requires { 0 < radix }
-    ensures { IsValue (n.value_behind radix 0 digits.now) result }
-{
-    let mut value = 0u128;
-    for byte in digits {
-        value = with_digit(radix, value, *byte)?;
-    }
-    Some(value)
 }
 
 // A letter, a digit or `_` comes.
@@ -106,19 +104,57 @@ fn goes_on(bytes: &[u8]) -> bool
     }
 }
 
+// The base at the head, behind so many bytes of the format.
+fn format_base(signed: bool, before: usize, bytes: &[u8]) -> Option<Format>
+    requires { before < 3 }
+    ensures format { IsFormat (n.format_base signed (before + 1) bytes.now) result }
+    ensures used { IfSome result (λ f. f.used ≤ before + length bytes.now) }
+{
+    let (first, _) = next(bytes)?;
+    Some(Format {
+        signed,
+        base: Base::of_letter(first)?,
+        used: before + 1,
+    })
+}
+
+// `s` or not, and the base, behind an apostrophe.
+fn format_sign(bytes: &[u8]) -> Option<Format>
+    ensures format { IsFormat (n.format_sign bytes.now) result }
+    ensures used { IfSome result (λ f. f.used ≤ 1 + length bytes.now) }
+{
+    match next(bytes) {
+        Some((b's' | b'S', behind)) => format_base(true, 2, behind),
+        _ => format_base(false, 1, bytes),
+    }
+}
+
+// An apostrophe, `s` or not, and the base.
+fn format_at(bytes: &[u8]) -> Option<Format>
+    ensures format { IsFormat (n.format_at bytes.now) result }
+    ensures used { IfSome result (λ f. f.used ≤ length bytes.now) }
+{
+    match next(bytes) {
+        Some((b'\'', behind)) => format_sign(behind),
+        _ => None,
+    }
+}
+
 // The number of these digits without a size, behind which stand those bytes.
-fn plain_number(digits: &[u8], rest: &[u8]) -> Option<Number>
+fn read_plain(digits: &[u8], rest: &[u8]) -> Result<Number, Wrong>
     ensures tells { Tells (n.plain_number digits.now rest.now) result }
-    ensures used { IfSome result (λ x. x.used ≡ length digits.now) }
+    ensures used { IfOk result (λ x. x.used ≡ length digits.now) }
 {
     if goes_on(rest) {
-        return None;
+        return Err(Wrong::BadNumber);
     }
-    let value = digits_value(10, digits)?;
+    let Some(value) = digits_value(10, digits) else {
+        return Err(Wrong::BadNumber);
+    };
     if value >= 4_294_967_296 {
-        return None;
+        return Err(Wrong::BadNumber);
     }
-    Some(Number {
+    Ok(Number {
         literal: Literal {
             width: 32,
             sized: false,
@@ -130,120 +166,98 @@ fn plain_number(digits: &[u8], rest: &[u8]) -> Option<Number>
     })
 }
 
-// The lowest bits of the value.
-fn low_bits(width: u32, value: u128) -> u128
-    requires { width ≤ 128 }
-    ensures { result ≡ value % 2 ^ width }
+// The width that a size gives.
+fn width_of(size: &[u8]) -> Result<u32, Wrong>
+    ensures { IsWidth (value_of 10 size.now) result }
 {
-    if width == MAX_WIDTH {
-        value
-    } else {
-        value % (1u128 << width)
+    let Some(width) = digits_value(10, size) else {
+        return Err(Wrong::TooWide);
+    };
+    if width == 0 {
+        return Err(Wrong::BadNumber);
     }
+    if width > u128::from(MAX_WIDTH) {
+        return Err(Wrong::TooWide);
+    }
+    Ok(width as u32)
 }
 
-// Ones in so many bits.
-fn all_bits(width: u32) -> u128
-    requires { width ≤ 128 }
-    ensures { result ≡ 2 ^ width - 1 }
+// The literal of this width and these digits.
+fn sized_literal(width: u32, signed: bool, base: Base, digits: &[u8]) -> Result<Literal, Wrong>
+    requires { (1 ≤ width) × (width ≤ 128) }
+    ensures { IsLiteral (n.sized_literal width signed base digits.now) result }
 {
-    if width == MAX_WIDTH {
-        u128::MAX
-    } else {
-        (1u128 << width) - 1
-    }
-}
-
-// The bits that digits leave open: all where they are a `z`.
-fn wild_bits(width: u32, digits: &[u8]) -> u128
-    requires { width ≤ 128 }
-    ensures value { result ≡ n.wild_of n.decimal width digits.now }
-    ensures fits { result < 2 ^ width }
-{
-    match next(digits) {
-        Some((first, _)) if is_z(first) => all_bits(width),
-        _ => 0,
-    }
-}
-
-// The width that a size gives, if there may be one.
-fn width_of(size: &[u8]) -> Option<u32>
-    ensures { IsWidth (n.value_of n.decimal size.now) result }
-{
-    let width = digits_value(10, size)?;
-    if width == 0 || width > u128::from(MAX_WIDTH) {
-        return None;
-    }
-    Some(width as u32)
-}
-
-// The literal of this size and these digits.
-fn sized_literal(signed: bool, size: &[u8], digits: &[u8]) -> Option<Literal>
-    ensures { IsLiteral (n.sized_literal signed (n.value_of n.decimal size.now) n.decimal digits.now) result }
-{
-    let width = width_of(size)?;
-    let value = digits_value(10, digits)?;
-    Some(Literal {
+    let Some(value) = digits_value(base.radix(), digits) else {
+        return Err(Wrong::TooWide);
+    };
+    Ok(Literal {
         width,
         sized: true,
         signed,
         value: low_bits(width, value),
-        wild: wild_bits(width, digits),
+        wild: wild_bits(base, width, digits),
     })
 }
 
-// The number whose digits stand at the head of these bytes, with so many before them.
-fn read_digits(signed: bool, size: &[u8], before: usize, bytes: &[u8]) -> Option<Number>
-    requires { before + length bytes.now < 2 ^ 32 }
-    ensures tells { Tells (n.number_digits signed size.now before (Some n.decimal) bytes.now) result }
-    ensures used { IfSome result (λ x. (before ≤ x.used) × (x.used ≤ before + length bytes.now)) }
+// The literal of these digits without a size.
+fn unsized_literal(signed: bool, base: Base, digits: &[u8]) -> Result<Literal, Wrong>
+    ensures { IsLiteral (n.unsized_literal signed base digits.now) result }
 {
-    let count = digits_length(bytes);
+    let Some(value) = digits_value(base.radix(), digits) else {
+        return Err(Wrong::TooWide);
+    };
+    if value >= 4_294_967_296 {
+        return Err(Wrong::TooWide);
+    }
+    Ok(Literal {
+        width: 32,
+        sized: false,
+        signed,
+        value,
+        wild: wild_bits(base, 32, digits),
+    })
+}
+
+// The literal of this size, which may be empty, and these digits.
+fn literal_of(size: &[u8], signed: bool, base: Base, digits: &[u8]) -> Result<Literal, Wrong>
+    ensures { IsLiteral (n.literal_of_size size.now signed base digits.now) result }
+{
+    if size.is_empty() {
+        return unsized_literal(signed, base, digits);
+    }
+    let width = width_of(size)?;
+    sized_literal(width, signed, base, digits)
+}
+
+// The number of this size and format, whose digits stand at the head of these bytes.
+fn read_based(size: &[u8], format: Format, bytes: &[u8]) -> Result<Number, Wrong>
+    requires { length size.now + format.used + length bytes.now < 2 ^ 63 }
+    ensures tells { Tells (n.based_number size.now (format_of format) bytes.now) result }
+    ensures used { IfOk result (λ x. (0 < x.used) × (x.used ≤ length size.now + format.used + length bytes.now)) }
+{
+    let count = digits_length(format.base, bytes);
     let (digits, rest) = bytes.split_at(count);
     if count == 0 || goes_on(rest) {
-        return None;
+        return Err(Wrong::BadNumber);
     }
-    let literal = sized_literal(signed, size, digits)?;
-    Some(Number {
+    let literal = literal_of(size, format.signed, format.base, digits)?;
+    Ok(Number {
         literal,
-        used: before + count,
+        used: size.len() + format.used + count,
     })
 }
 
-// The same from the base on.
-fn read_base(signed: bool, size: &[u8], before: usize, bytes: &[u8]) -> Option<Number>
-    requires { before + length bytes.now < 2 ^ 32 }
-    ensures tells { Tells (n.number_base signed size.now before bytes.now) result }
-    ensures used { IfSome result (λ x. (before ≤ x.used) × (x.used ≤ before + length bytes.now)) }
-{
-    match next(bytes) {
-        Some((b'd' | b'D', behind)) => read_digits(signed, size, before + 1, behind),
-        _ => None,
-    }
-}
-
-// The same behind the apostrophe.
-fn read_sign(size: &[u8], bytes: &[u8]) -> Option<Number>
-    requires { length size.now + 1 + length bytes.now < 2 ^ 32 }
-    ensures tells { Tells (n.number_sign (n.begins_with_s bytes.now) size.now bytes.now) result }
-    ensures used { IfSome result (λ x. (0 < x.used) × (x.used ≤ length size.now + 1 + length bytes.now)) }
-{
-    match next(bytes) {
-        Some((b's' | b'S', behind)) => read_base(true, size, size.len() + 2, behind),
-        _ => read_base(false, size, size.len() + 1, bytes),
-    }
-}
-
-/// The number at the head, which begins with a digit.
-pub fn read_number(bytes: &[u8]) -> Option<Number>
-    requires room { length bytes.now < 2 ^ 32 }
-    requires some { 0 < prefix_len (n.is_in_digits n.decimal) bytes.now }
+/// The number at the head.
+pub fn read_number(bytes: &[u8]) -> Result<Number, Wrong>
     ensures tells { Tells (n.number_at bytes.now) result }
-    ensures used { IfSome result (λ x. (0 < x.used) × (x.used ≤ length bytes.now)) }
+    ensures used { IfOk result (λ x. (0 < x.used) × (x.used ≤ length bytes.now)) }
 {
-    let (size, rest) = bytes.split_at(count_digits(bytes));
-    match next(rest) {
-        Some((b'\'', behind)) => read_sign(size, behind),
-        _ => plain_number(size, rest),
+    let (size, rest) = bytes.split_at(count_decimal(bytes));
+    if let Some(format) = format_at(rest) {
+        return read_based(size, format, behind(rest, format.used));
     }
+    if size.is_empty() {
+        return Err(Wrong::BadToken);
+    }
+    read_plain(size, rest)
 }

@@ -3,17 +3,17 @@
 ghost use Rattle.std.specs.Prelude.{◌≡◌, ◌+◌, ◌^◌, ◌≤◌, ◌<◌, ◌∷◌, length, take, IfOk, IfSome};
 ghost use Rattle.std.specs.List.{prefix_len};
 ghost use Rattle.vl_lex.specs.Strings as s;
-ghost use Rattle.vl_lex.specs.Reading.{IsPiece, IsPieceOrEnd, Quotes};
+ghost use Rattle.vl_lex.specs.Reading.{IsCharacter, IsCharacterOrEnd, Quotes};
 
-use crate::LexFault;
 use crate::bytes::{behind, next};
-use crate::numbers::digits_value;
+use crate::digits::digits_value;
+use crate::faults::Wrong;
 use dt_core::text::Text;
 use std::alloc::Global;
 
 /// A byte of a string and how many bytes spell it.
 #[derive(Clone, Copy)]
-pub struct Piece {
+pub struct Character {
     pub byte: u8,
     pub used: usize,
 }
@@ -44,8 +44,8 @@ fn count_octal(bytes: &[u8]) -> usize
 }
 
 // The byte of an octal escape, whose backslash stands before these bytes.
-fn octal_escape(bytes: &[u8]) -> Option<Piece>
-    ensures piece { IsPiece (s.octal_escape bytes.now) result }
+fn octal_escape(bytes: &[u8]) -> Option<Character>
+    ensures character { IsCharacter (s.octal_escape bytes.now) result }
     ensures used { IfSome result (λ p. (0 < p.used) × (p.used ≤ length bytes.now)) }
 {
     let used = count_octal(bytes);
@@ -53,26 +53,26 @@ fn octal_escape(bytes: &[u8]) -> Option<Piece>
     if used == 0 || value >= 256 {
         return None;
     }
-    Some(Piece {
+    Some(Character {
         byte: value as u8,
         used,
     })
 }
 
 // The byte of an escape, whose backslash stands before these bytes.
-fn escape(bytes: &[u8]) -> Option<Piece>
-    ensures piece { IsPiece (s.escape bytes.now) result }
+fn escape(bytes: &[u8]) -> Option<Character>
+    ensures character { IsCharacter (s.escape bytes.now) result }
     ensures used { IfSome result (λ p. (0 < p.used) × (p.used ≤ length bytes.now)) }
 {
     let (first, _) = next(bytes)?;
     if first == b'n' {
-        return Some(Piece { byte: 10, used: 1 });
+        return Some(Character { byte: 10, used: 1 });
     }
     if first == b't' {
-        return Some(Piece { byte: 9, used: 1 });
+        return Some(Character { byte: 9, used: 1 });
     }
     if first == b'\\' || first == b'"' {
-        return Some(Piece {
+        return Some(Character {
             byte: first,
             used: 1,
         });
@@ -99,52 +99,50 @@ fn ends_line(bytes: &[u8]) -> bool
     }
 }
 
-// The piece of a string at the head: a byte, or none at the closing quote.
-fn piece_at(bytes: &[u8]) -> Result<Option<Piece>, LexFault>
-    requires { length bytes.now < 2 ^ 32 }
-    ensures piece { IsPieceOrEnd (s.piece_at bytes.now) result }
+// The character of a string at the head: a byte, or none at the closing quote.
+fn character_at(bytes: &[u8]) -> Result<Option<Character>, Wrong>
+    ensures character { IsCharacterOrEnd (s.character_at bytes.now) result }
     ensures used { IfOk result (λ o. IfSome o (λ p. (0 < p.used) × (p.used ≤ length bytes.now))) }
     ensures some { IfOk result (λ o. 0 < length bytes.now) }
 {
     if ends_line(bytes) {
-        return Err(LexFault::NoTokens);
+        return Err(Wrong::OpenString);
     }
     let Some((first, behind)) = next(bytes) else {
-        return Err(LexFault::NoTokens);
+        return Err(Wrong::OpenString);
     };
     if first == b'"' {
         return Ok(None);
     }
     if first != b'\\' {
-        return Ok(Some(Piece {
+        return Ok(Some(Character {
             byte: first,
             used: 1,
         }));
     }
     match escape(behind) {
-        Some(piece) => Ok(Some(Piece {
-            byte: piece.byte,
-            used: piece.used + 1,
+        Some(character) => Ok(Some(Character {
+            byte: character.byte,
+            used: character.used + 1,
         })),
-        None => Err(LexFault::NoTokens),
+        None => Err(Wrong::BadToken),
     }
 }
 
 /// The string behind its first quote.
-pub fn read_string(alloc: Global, bytes: &[u8]) -> Result<Quoted, LexFault>
-    requires { length bytes.now < 2 ^ 32 }
+pub fn read_string(alloc: Global, bytes: &[u8]) -> Result<Quoted, Wrong>
     ensures quotes { Quotes (s.string_at bytes.now) result }
     ensures used { IfOk result (λ x. (0 < x.used) × (x.used ≤ length bytes.now)) }
 {
     let Ok(mut text) = Text::new(alloc) else {
-        return Err(LexFault::Memory);
+        return Err(Wrong::Memory);
     };
     let mut rest = bytes;
-    while let Some(piece) = piece_at(rest)? {
-        if text.push(piece.byte).is_err() {
-            return Err(LexFault::Memory);
+    while let Some(character) = character_at(rest)? {
+        if text.push(character.byte).is_err() {
+            return Err(Wrong::Memory);
         }
-        rest = behind(rest, piece.used);
+        rest = behind(rest, character.used);
     }
     Ok(Quoted {
         text,

@@ -1,17 +1,16 @@
 //! One token: which kind stands at the head of the bytes that are left.
 
-ghost use Rattle.std.specs.Prelude.{◌≡◌, ◌+◌, ◌^◌, ◌≤◌, ◌<◌, ◌∷◌, ℕ, List, length, IfOk, IfSome};
-ghost use Rattle.std.specs.List.{prefix_len};
+ghost use Rattle.std.specs.Prelude.{◌≡◌, ◌+◌, ◌^◌, ◌≤◌, ◌<◌, ◌∷◌, ℕ, List, length, IfOk};
 ghost use Rattle.vl_tree.specs.Token.{coded_kind};
-ghost use Rattle.vl_lex.specs.Bytes as b;
+ghost use Rattle.vl_pre.specs.Bytes as b;
 ghost use Rattle.vl_lex.specs.Words.{marks};
 ghost use Rattle.vl_lex.specs.Tokens as t;
-ghost use Rattle.vl_lex.specs.Numbers as n;
-ghost use Rattle.vl_lex.specs.Strings as s;
-ghost use Rattle.vl_lex.specs.Reading.{Finds, Spells};
+ghost use Rattle.vl_lex.specs.Numbers.{number_at};
+ghost use Rattle.vl_lex.specs.Strings.{string_at};
+ghost use Rattle.vl_lex.specs.Reading.{Spells, SpellsAlone};
 
-use crate::LexFault;
 use crate::bytes::{begins_name, behind, escaped_length, is_digit, name_length};
+use crate::faults::Wrong;
 use crate::numbers::read_number;
 use crate::strings::read_string;
 use crate::words::{keyword, mark_at, system_name};
@@ -39,87 +38,84 @@ fn word_kind(alloc: Global, word: &[u8]) -> Result<TokenKind, NoMemory>
 }
 
 // The name or keyword at the head.
-fn read_name(alloc: Global, bytes: &[u8]) -> Result<Found, LexFault>
+fn read_name(alloc: Global, bytes: &[u8]) -> Result<Found, Wrong>
     requires { 0 < b.name_length bytes.now }
     ensures spells { Spells (t.name_token bytes.now) result }
     ensures used { IfOk result (λ f. (0 < f.used) × (f.used ≤ length bytes.now)) }
 {
     let used = name_length(bytes);
     if used > MAX_NAME {
-        return Err(LexFault::NoTokens);
+        return Err(Wrong::BadToken);
     }
     match word_kind(alloc, bytes.split_at(used).0) {
         Ok(kind) => Ok(Found { kind, used }),
-        Err(_) => Err(LexFault::Memory),
+        Err(_) => Err(Wrong::Memory),
     }
 }
 
 // The escaped name behind its backslash.
-fn read_escaped(alloc: Global, bytes: &[u8]) -> Result<Found, LexFault>
-    requires { length bytes.now < 2 ^ 32 }
+fn read_escaped(alloc: Global, bytes: &[u8]) -> Result<Found, Wrong>
     ensures spells { Spells (t.escaped_token bytes.now) result }
     ensures used { IfOk result (λ f. (0 < f.used) × (f.used ≤ length bytes.now + 1)) }
 {
     let count = escaped_length(bytes);
     if count == 0 || count > MAX_NAME {
-        return Err(LexFault::NoTokens);
+        return Err(Wrong::BadToken);
     }
     match Text::copied(alloc, bytes.split_at(count).0) {
         Ok(name) => Ok(Found {
             kind: TokenKind::Name(name),
             used: count + 1,
         }),
-        Err(_) => Err(LexFault::Memory),
+        Err(_) => Err(Wrong::Memory),
     }
 }
 
 // The system name behind its `$`.
-fn read_system(bytes: &[u8]) -> Option<Found>
-    requires { length bytes.now < 2 ^ 32 }
-    ensures finds { Finds (t.system_token bytes.now) result }
-    ensures used { IfSome result (λ f. (0 < f.used) × (f.used ≤ length bytes.now + 1)) }
+fn read_system(bytes: &[u8]) -> Result<Found, Wrong>
+    ensures spells { SpellsAlone (t.system_token bytes.now) result }
+    ensures used { IfOk result (λ f. (0 < f.used) × (f.used ≤ length bytes.now + 1)) }
 {
     let count = name_length(bytes);
     if count == 0 || count > MAX_NAME {
-        return None;
+        return Err(Wrong::BadToken);
     }
     let system = system_name(bytes.split_at(count).0).unwrap_or(System::Other);
-    Some(Found {
+    Ok(Found {
         kind: TokenKind::System(system),
         used: count + 1,
     })
 }
 
 // The mark at the head.
-fn read_mark(bytes: &[u8]) -> Option<Found>
-    ensures finds { Finds (t.mark_token marks bytes.now) result }
-    ensures used { IfSome result (λ f. (0 < f.used) × (f.used ≤ length bytes.now)) }
+fn read_mark(bytes: &[u8]) -> Result<Found, Wrong>
+    ensures spells { SpellsAlone (t.mark_token marks bytes.now) result }
+    ensures used { IfOk result (λ f. (0 < f.used) × (f.used ≤ length bytes.now)) }
 {
-    let entry = mark_at(bytes)?;
-    Some(Found {
-        kind: TokenKind::Mark(entry.meaning),
-        used: entry.word.len(),
+    let Some((mark, used)) = mark_at(bytes) else {
+        return Err(Wrong::BadToken);
+    };
+    Ok(Found {
+        kind: TokenKind::Mark(mark),
+        used,
     })
 }
 
 // The number at the head.
-fn read_number_token(bytes: &[u8]) -> Option<Found>
-    requires room { length bytes.now < 2 ^ 32 }
-    requires some { 0 < prefix_len (n.is_in_digits n.decimal) bytes.now }
-    ensures finds { Finds (t.number_token (n.number_at bytes.now)) result }
-    ensures used { IfSome result (λ f. (0 < f.used) × (f.used ≤ length bytes.now)) }
+fn read_number_token(bytes: &[u8]) -> Result<Found, Wrong>
+    ensures spells { SpellsAlone (t.number_token (number_at bytes.now)) result }
+    ensures used { IfOk result (λ f. (0 < f.used) × (f.used ≤ length bytes.now)) }
 {
     let number = read_number(bytes)?;
-    Some(Found {
+    Ok(Found {
         kind: TokenKind::Number(number.literal),
         used: number.used,
     })
 }
 
 // The string behind its first quote.
-fn read_string_token(alloc: Global, bytes: &[u8]) -> Result<Found, LexFault>
-    requires { length bytes.now < 2 ^ 32 }
-    ensures spells { Spells (t.string_token (s.string_at bytes.now)) result }
+fn read_string_token(alloc: Global, bytes: &[u8]) -> Result<Found, Wrong>
+    ensures spells { Spells (t.string_token (string_at bytes.now)) result }
     ensures used { IfOk result (λ f. (0 < f.used) × (f.used ≤ length bytes.now + 1)) }
 {
     match read_string(alloc, bytes) {
@@ -127,13 +123,12 @@ fn read_string_token(alloc: Global, bytes: &[u8]) -> Result<Found, LexFault>
             kind: TokenKind::Str(quoted.text),
             used: quoted.used + 1,
         }),
-        Err(fault) => Err(fault),
+        Err(wrong) => Err(wrong),
     }
 }
 
 /// The token at the head, by its first byte.
-pub fn read_token(alloc: Global, first: u8, bytes: &[u8]) -> Result<Found, LexFault>
-    requires room { length bytes.now < 2 ^ 32 }
+pub fn read_token(alloc: Global, first: u8, bytes: &[u8]) -> Result<Found, Wrong>
     requires head { (rest : List ℕ) × (bytes.now ≡ first ∷ rest) }
     ensures spells { Spells (t.token_at bytes.now) result }
     ensures used { IfOk result (λ f. (0 < f.used) × (f.used ≤ length bytes.now)) }
@@ -141,11 +136,11 @@ pub fn read_token(alloc: Global, first: u8, bytes: &[u8]) -> Result<Found, LexFa
     if begins_name(first) {
         return read_name(alloc, bytes);
     }
-    if is_digit(first) {
-        return read_number_token(bytes).ok_or(LexFault::NoTokens);
+    if is_digit(first) || first == b'\'' {
+        return read_number_token(bytes);
     }
     if first == b'$' {
-        return read_system(behind(bytes, 1)).ok_or(LexFault::NoTokens);
+        return read_system(behind(bytes, 1));
     }
     if first == b'\\' {
         return read_escaped(alloc, behind(bytes, 1));
@@ -153,5 +148,5 @@ pub fn read_token(alloc: Global, first: u8, bytes: &[u8]) -> Result<Found, LexFa
     if first == b'"' {
         return read_string_token(alloc, behind(bytes, 1));
     }
-    read_mark(bytes).ok_or(LexFault::NoTokens)
+    read_mark(bytes)
 }

@@ -6,462 +6,131 @@ ghost use Rattle.vl_lex.specs.Reading.{pairs, FindsMark};
 
 use vl_tree::token::{Key, Mark, System};
 
-/// A word and what it stands for.
-#[derive(Clone, Copy)]
-pub struct Entry<T: Copy> {
-    pub word: &'static [u8],
-    pub meaning: T,
-}
-
-static KEYS: [Entry<Key>; 56] = [
-    Entry {
-        word: b"always",
-        meaning: Key::Always,
-    },
-    Entry {
-        word: b"assign",
-        meaning: Key::Assign,
-    },
-    Entry {
-        word: b"automatic",
-        meaning: Key::Automatic,
-    },
-    Entry {
-        word: b"begin",
-        meaning: Key::Begin,
-    },
-    Entry {
-        word: b"case",
-        meaning: Key::Case,
-    },
-    Entry {
-        word: b"casez",
-        meaning: Key::Casez,
-    },
-    Entry {
-        word: b"default",
-        meaning: Key::Default,
-    },
-    Entry {
-        word: b"else",
-        meaning: Key::Else,
-    },
-    Entry {
-        word: b"end",
-        meaning: Key::End,
-    },
-    Entry {
-        word: b"endcase",
-        meaning: Key::Endcase,
-    },
-    Entry {
-        word: b"endfunction",
-        meaning: Key::Endfunction,
-    },
-    Entry {
-        word: b"endgenerate",
-        meaning: Key::Endgenerate,
-    },
-    Entry {
-        word: b"endmodule",
-        meaning: Key::Endmodule,
-    },
-    Entry {
-        word: b"for",
-        meaning: Key::For,
-    },
-    Entry {
-        word: b"function",
-        meaning: Key::Function,
-    },
-    Entry {
-        word: b"generate",
-        meaning: Key::Generate,
-    },
-    Entry {
-        word: b"genvar",
-        meaning: Key::Genvar,
-    },
-    Entry {
-        word: b"if",
-        meaning: Key::If,
-    },
-    Entry {
-        word: b"initial",
-        meaning: Key::Initial,
-    },
-    Entry {
-        word: b"input",
-        meaning: Key::Input,
-    },
-    Entry {
-        word: b"integer",
-        meaning: Key::Integer,
-    },
-    Entry {
-        word: b"localparam",
-        meaning: Key::Localparam,
-    },
-    Entry {
-        word: b"module",
-        meaning: Key::Module,
-    },
-    Entry {
-        word: b"negedge",
-        meaning: Key::Negedge,
-    },
-    Entry {
-        word: b"or",
-        meaning: Key::Or,
-    },
-    Entry {
-        word: b"output",
-        meaning: Key::Output,
-    },
-    Entry {
-        word: b"parameter",
-        meaning: Key::Parameter,
-    },
-    Entry {
-        word: b"posedge",
-        meaning: Key::Posedge,
-    },
-    Entry {
-        word: b"reg",
-        meaning: Key::Reg,
-    },
-    Entry {
-        word: b"signed",
-        meaning: Key::Signed,
-    },
-    Entry {
-        word: b"wire",
-        meaning: Key::Wire,
-    },
-    Entry {
-        word: b"inout",
-        meaning: Key::Unused,
-    },
-    Entry {
-        word: b"casex",
-        meaning: Key::Unused,
-    },
-    Entry {
-        word: b"task",
-        meaning: Key::Unused,
-    },
-    Entry {
-        word: b"fork",
-        meaning: Key::Unused,
-    },
-    Entry {
-        word: b"join",
-        meaning: Key::Unused,
-    },
-    Entry {
-        word: b"wait",
-        meaning: Key::Unused,
-    },
-    Entry {
-        word: b"force",
-        meaning: Key::Unused,
-    },
-    Entry {
-        word: b"release",
-        meaning: Key::Unused,
-    },
-    Entry {
-        word: b"deassign",
-        meaning: Key::Unused,
-    },
-    Entry {
-        word: b"while",
-        meaning: Key::Unused,
-    },
-    Entry {
-        word: b"repeat",
-        meaning: Key::Unused,
-    },
-    Entry {
-        word: b"forever",
-        meaning: Key::Unused,
-    },
-    Entry {
-        word: b"real",
-        meaning: Key::Unused,
-    },
-    Entry {
-        word: b"realtime",
-        meaning: Key::Unused,
-    },
-    Entry {
-        word: b"time",
-        meaning: Key::Unused,
-    },
-    Entry {
-        word: b"event",
-        meaning: Key::Unused,
-    },
-    Entry {
-        word: b"tri",
-        meaning: Key::Unused,
-    },
-    Entry {
-        word: b"wand",
-        meaning: Key::Unused,
-    },
-    Entry {
-        word: b"wor",
-        meaning: Key::Unused,
-    },
-    Entry {
-        word: b"supply0",
-        meaning: Key::Unused,
-    },
-    Entry {
-        word: b"supply1",
-        meaning: Key::Unused,
-    },
-    Entry {
-        word: b"defparam",
-        meaning: Key::Unused,
-    },
-    Entry {
-        word: b"specify",
-        meaning: Key::Unused,
-    },
-    Entry {
-        word: b"primitive",
-        meaning: Key::Unused,
-    },
-    Entry {
-        word: b"disable",
-        meaning: Key::Unused,
-    },
+static KEYS: [(&[u8], Key); 56] = [
+    (b"always", Key::Always),
+    (b"assign", Key::Assign),
+    (b"automatic", Key::Automatic),
+    (b"begin", Key::Begin),
+    (b"case", Key::Case),
+    (b"casez", Key::Casez),
+    (b"default", Key::Default),
+    (b"else", Key::Else),
+    (b"end", Key::End),
+    (b"endcase", Key::Endcase),
+    (b"endfunction", Key::Endfunction),
+    (b"endgenerate", Key::Endgenerate),
+    (b"endmodule", Key::Endmodule),
+    (b"for", Key::For),
+    (b"function", Key::Function),
+    (b"generate", Key::Generate),
+    (b"genvar", Key::Genvar),
+    (b"if", Key::If),
+    (b"initial", Key::Initial),
+    (b"input", Key::Input),
+    (b"integer", Key::Integer),
+    (b"localparam", Key::Localparam),
+    (b"module", Key::Module),
+    (b"negedge", Key::Negedge),
+    (b"or", Key::Or),
+    (b"output", Key::Output),
+    (b"parameter", Key::Parameter),
+    (b"posedge", Key::Posedge),
+    (b"reg", Key::Reg),
+    (b"signed", Key::Signed),
+    (b"wire", Key::Wire),
+    (b"inout", Key::Inout),
+    (b"casex", Key::Casex),
+    (b"task", Key::Task),
+    (b"fork", Key::Fork),
+    (b"join", Key::Join),
+    (b"wait", Key::Wait),
+    (b"force", Key::Force),
+    (b"release", Key::Release),
+    (b"deassign", Key::Deassign),
+    (b"while", Key::While),
+    (b"repeat", Key::Repeat),
+    (b"forever", Key::Forever),
+    (b"real", Key::Real),
+    (b"realtime", Key::Realtime),
+    (b"time", Key::Time),
+    (b"event", Key::Event),
+    (b"tri", Key::Tri),
+    (b"wand", Key::Wand),
+    (b"wor", Key::Wor),
+    (b"supply0", Key::Supply0),
+    (b"supply1", Key::Supply1),
+    (b"defparam", Key::Defparam),
+    (b"specify", Key::Specify),
+    (b"primitive", Key::Primitive),
+    (b"disable", Key::Disable),
 ];
 
-// Longer marks stand before those that they begin with.
-static MARKS: [Entry<Mark>; 44] = [
-    Entry {
-        word: b"<<<",
-        meaning: Mark::ArithmeticLeft,
-    },
-    Entry {
-        word: b">>>",
-        meaning: Mark::ArithmeticRight,
-    },
-    Entry {
-        word: b"===",
-        meaning: Mark::CaseEqual,
-    },
-    Entry {
-        word: b"!==",
-        meaning: Mark::CaseNotEqual,
-    },
-    Entry {
-        word: b"<<",
-        meaning: Mark::ShiftLeft,
-    },
-    Entry {
-        word: b">>",
-        meaning: Mark::ShiftRight,
-    },
-    Entry {
-        word: b"<=",
-        meaning: Mark::LessEqual,
-    },
-    Entry {
-        word: b">=",
-        meaning: Mark::GreaterEqual,
-    },
-    Entry {
-        word: b"==",
-        meaning: Mark::EqualEqual,
-    },
-    Entry {
-        word: b"!=",
-        meaning: Mark::NotEqual,
-    },
-    Entry {
-        word: b"&&",
-        meaning: Mark::AndAnd,
-    },
-    Entry {
-        word: b"||",
-        meaning: Mark::OrOr,
-    },
-    Entry {
-        word: b"~&",
-        meaning: Mark::Nand,
-    },
-    Entry {
-        word: b"~|",
-        meaning: Mark::Nor,
-    },
-    Entry {
-        word: b"~^",
-        meaning: Mark::Xnor,
-    },
-    Entry {
-        word: b"^~",
-        meaning: Mark::Xnor,
-    },
-    Entry {
-        word: b"+:",
-        meaning: Mark::PlusColon,
-    },
-    Entry {
-        word: b"-:",
-        meaning: Mark::MinusColon,
-    },
-    Entry {
-        word: b"#",
-        meaning: Mark::Hash,
-    },
-    Entry {
-        word: b"(",
-        meaning: Mark::OpenParen,
-    },
-    Entry {
-        word: b")",
-        meaning: Mark::CloseParen,
-    },
-    Entry {
-        word: b"[",
-        meaning: Mark::OpenBracket,
-    },
-    Entry {
-        word: b"]",
-        meaning: Mark::CloseBracket,
-    },
-    Entry {
-        word: b"{",
-        meaning: Mark::OpenBrace,
-    },
-    Entry {
-        word: b"}",
-        meaning: Mark::CloseBrace,
-    },
-    Entry {
-        word: b",",
-        meaning: Mark::Comma,
-    },
-    Entry {
-        word: b";",
-        meaning: Mark::Semicolon,
-    },
-    Entry {
-        word: b":",
-        meaning: Mark::Colon,
-    },
-    Entry {
-        word: b".",
-        meaning: Mark::Dot,
-    },
-    Entry {
-        word: b"@",
-        meaning: Mark::At,
-    },
-    Entry {
-        word: b"?",
-        meaning: Mark::Question,
-    },
-    Entry {
-        word: b"=",
-        meaning: Mark::Equals,
-    },
-    Entry {
-        word: b"*",
-        meaning: Mark::Star,
-    },
-    Entry {
-        word: b"/",
-        meaning: Mark::Slash,
-    },
-    Entry {
-        word: b"%",
-        meaning: Mark::Percent,
-    },
-    Entry {
-        word: b"+",
-        meaning: Mark::Plus,
-    },
-    Entry {
-        word: b"-",
-        meaning: Mark::Minus,
-    },
-    Entry {
-        word: b"<",
-        meaning: Mark::Less,
-    },
-    Entry {
-        word: b">",
-        meaning: Mark::Greater,
-    },
-    Entry {
-        word: b"&",
-        meaning: Mark::And,
-    },
-    Entry {
-        word: b"|",
-        meaning: Mark::Or,
-    },
-    Entry {
-        word: b"^",
-        meaning: Mark::Xor,
-    },
-    Entry {
-        word: b"!",
-        meaning: Mark::Not,
-    },
-    Entry {
-        word: b"~",
-        meaning: Mark::Tilde,
-    },
+// Longer marks stand before those that they begin with, and the commonest first.
+static MARKS: [(&[u8], Mark); 44] = [
+    (b"(", Mark::OpenParen),
+    (b")", Mark::CloseParen),
+    (b";", Mark::Semicolon),
+    (b",", Mark::Comma),
+    (b"[", Mark::OpenBracket),
+    (b"]", Mark::CloseBracket),
+    (b"{", Mark::OpenBrace),
+    (b"}", Mark::CloseBrace),
+    (b".", Mark::Dot),
+    (b":", Mark::Colon),
+    (b"#", Mark::Hash),
+    (b"@", Mark::At),
+    (b"?", Mark::Question),
+    (b"*", Mark::Star),
+    (b"/", Mark::Slash),
+    (b"%", Mark::Percent),
+    (b"<<<", Mark::ArithmeticLeft),
+    (b">>>", Mark::ArithmeticRight),
+    (b"===", Mark::CaseEqual),
+    (b"!==", Mark::CaseNotEqual),
+    (b"<<", Mark::ShiftLeft),
+    (b">>", Mark::ShiftRight),
+    (b"<=", Mark::LessEqual),
+    (b">=", Mark::GreaterEqual),
+    (b"==", Mark::EqualEqual),
+    (b"!=", Mark::NotEqual),
+    (b"&&", Mark::AndAnd),
+    (b"||", Mark::OrOr),
+    (b"~&", Mark::Nand),
+    (b"~|", Mark::Nor),
+    (b"~^", Mark::Xnor),
+    (b"^~", Mark::Xnor),
+    (b"+:", Mark::PlusColon),
+    (b"-:", Mark::MinusColon),
+    (b"=", Mark::Equals),
+    (b"+", Mark::Plus),
+    (b"-", Mark::Minus),
+    (b"<", Mark::Less),
+    (b">", Mark::Greater),
+    (b"&", Mark::And),
+    (b"|", Mark::Or),
+    (b"^", Mark::Xor),
+    (b"!", Mark::Not),
+    (b"~", Mark::Tilde),
 ];
 
-static SYSTEMS: [Entry<System>; 8] = [
-    Entry {
-        word: b"display",
-        meaning: System::Display,
-    },
-    Entry {
-        word: b"write",
-        meaning: System::Write,
-    },
-    Entry {
-        word: b"fwrite",
-        meaning: System::Fwrite,
-    },
-    Entry {
-        word: b"stop",
-        meaning: System::Stop,
-    },
-    Entry {
-        word: b"fatal",
-        meaning: System::Fatal,
-    },
-    Entry {
-        word: b"signed",
-        meaning: System::Signed,
-    },
-    Entry {
-        word: b"unsigned",
-        meaning: System::Unsigned,
-    },
-    Entry {
-        word: b"clog2",
-        meaning: System::Clog2,
-    },
+static SYSTEMS: [(&[u8], System); 8] = [
+    (b"display", System::Display),
+    (b"write", System::Write),
+    (b"fwrite", System::Fwrite),
+    (b"stop", System::Stop),
+    (b"fatal", System::Fatal),
+    (b"signed", System::Signed),
+    (b"unsigned", System::Unsigned),
+    (b"clog2", System::Clog2),
 ];
 
 // What the first of these entries under the word stands for.
-fn find<T: Copy>(entries: &[Entry<T>], word: &[u8]) -> Option<T>
+fn find<T: Copy>(entries: &[(&[u8], T)], word: &[u8]) -> Option<T>
     ensures { result ≡ w.entry (pairs entries.now) word.now }
 {
     for entry in entries {
-        if entry.word == word {
-            return Some(entry.meaning);
+        if entry.0 == word {
+            return Some(entry.1);
         }
     }
     None
@@ -481,20 +150,20 @@ pub fn system_name(word: &[u8]) -> Option<System>
     find(SYSTEMS.as_slice(), word)
 }
 
-// The first of these marks with which the bytes begin.
-fn find_mark(entries: &[Entry<Mark>], bytes: &[u8]) -> Option<Entry<Mark>>
+// The first of these marks with which the bytes begin, and how many bytes it has.
+fn find_mark(entries: &[(&[u8], Mark)], bytes: &[u8]) -> Option<(Mark, usize)>
     ensures { FindsMark (pairs entries.now) bytes.now result }
 {
     for entry in entries {
-        if bytes.starts_with(entry.word) {
-            return Some(*entry);
+        if bytes.starts_with(entry.0) {
+            return Some((entry.1, entry.0.len()));
         }
     }
     None
 }
 
-/// The mark at the head.
-pub fn mark_at(bytes: &[u8]) -> Option<Entry<Mark>>
+/// The mark at the head, and how many bytes it has.
+pub fn mark_at(bytes: &[u8]) -> Option<(Mark, usize)>
     ensures { FindsMark w.marks bytes.now result }
 {
     find_mark(MARKS.as_slice(), bytes)

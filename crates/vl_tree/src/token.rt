@@ -17,7 +17,7 @@ pub struct Literal {
     ghost fits: { (value < 2 ^ width) × (wild < 2 ^ width) },
 }
 
-/// A keyword of the grammar (IEEE 1364-2005, annex B). `Unused` is each keyword that no rule uses.
+/// A keyword (IEEE 1364-2005, annex B); from `Inout` on those that no rule of the grammar uses.
 #[derive(Clone, Copy, Debug, PartialEq, Eq)]
 pub enum Key {
     Always,
@@ -51,7 +51,31 @@ pub enum Key {
     Reg,
     Signed,
     Wire,
-    Unused,
+    Inout,
+    Casex,
+    Task,
+    Fork,
+    Join,
+    Wait,
+    Force,
+    Release,
+    Deassign,
+    While,
+    Repeat,
+    Forever,
+    Real,
+    Realtime,
+    Time,
+    Event,
+    Tri,
+    Wand,
+    Wor,
+    Supply0,
+    Supply1,
+    Defparam,
+    Specify,
+    Primitive,
+    Disable,
 }
 
 /// A mark. `Xnor` is both `~^` and `^~`.

@@ -1,10 +1,6 @@
-use Rattle.std.proofs.Common.{◌≡◌, true, rules, sym, ap, subst, ◌∙◌}
-use Rattle.std.specs.Prelude.{Ok}
-use Rattle.vl_tree.specs.Token.{Tokens, all_coded}
-use Rattle.vl_tree.specs.Tree.{Module}
-use Rattle.vl_tree.specs.Grammar.{Derives}
+use Rattle.std.proofs.Common.{rules, sym, ◌∙◌}
+use Rattle.vl_tree.specs.Token.{all_coded}
 use Rattle.vl_tree.specs.View.{module_of}
-use Rattle.vl_lex.specs.Tokens.{tokens_of}
 use Rattle.vl_front.proofs.Steps.{no_tree, unsound, accepted}
 use Rattle.vl_front.proofs.read_design.Goals as goal
 

@@ -1,0 +1,33 @@
+use Rattle.std.proofs.Common.{rules, ◌≡◌, ◌++◌, ◌∷◌, [], arith, length-drop}
+use Rattle.std.proofs.lemmas.Result.{err_from_is_err_and}
+use Rattle.plain_lex.proofs.StringLaws.{string_start, string_more, string_end, string_fault}
+use Rattle.plain_lex.proofs.strings.read_string.Goals as goal
+
+pub loop-text-init : goal.loop-text-init
+loop-text-init c = record {
+  so_far = string_start c.args.bytes.now c.in-Ok.text c.in-Ok.ensures;
+  within = omega arith;
+}
+
+pub loop-text-preserved : goal.loop-text-preserved
+loop-text-preserved c =
+    let e = rw c.in-Some.is at c.in_ok-piece.ensures.piece in
+    let u = rw c.in-Some.is at c.in_ok-piece.ensures.used in
+    let t : c.push.new.self ≡ c.loop-text.text ++ c.in-Some.piece.byte ∷ [] = search rules in
+    let b = c.behind-rest.ensures in
+    let d = length-drop c.in-Some.piece.used c.loop-text.rest.now in
+    record {
+      so_far = rw (t, b) (string_more c.args.bytes.now c.loop-text.text c.loop-text.rest.now c.in-Some.piece.byte c.in-Some.piece.used c.loop-text.invariant.within
+          c.loop-text.invariant.so_far e u.0 u.1);
+      within = rw (b, d) (omega (arith, c.loop-text.invariant.within));
+    }
+
+pub returns-clause-quotes : goal.returns-clause-quotes
+returns-clause-quotes c =
+    let e = rw c.in_default-2.is at c.in_ok-piece.ensures.piece in
+    string_end c.args.bytes.now c.loop-text.text c.loop-text.rest.now c.loop-text.invariant.so_far e
+
+pub returns-in_err-piece-clause-quotes : goal.returns-in_err-piece-clause-quotes
+returns-in_err-piece-clause-quotes c =
+    let p = err_from_is_err_and c.from_residual.result c.from_residual.ensures.1 in
+    rw (p.1, p.2) (string_fault c.args.bytes.now c.loop-text.text c.loop-text.rest.now c.in_err-piece.field-0.0 c.loop-text.invariant.so_far c.in_err-piece.ensures.piece)

@@ -1,0 +1,72 @@
+-- Strings: their spellings and the bytes that they stand for (IEEE 1364-2005, 3.6 and 3.6.3).
+use Rattle.std.specs.Prelude.{ℕ, zero, suc, ◌+◌, ◌==◌, nat_le, Bool, true, false, ◌&&◌, ◌||◌, if◌then◌else◌, List, [], ◌∷◌, take, drop, length, Option, Some, None, Result, Ok, Err}
+use Rattle.std.specs.List.{prefix_len}
+use Rattle.plain_lex.specs.Bytes.{between}
+use Rattle.plain_lex.specs.Faults.{FaultKind, bad_token, open_string}
+use Rattle.plain_lex.specs.Numbers.{value_behind}
+
+-- `0` to `7`
+abbrev pub is_octal : ℕ → Bool
+is_octal = between 48 55
+
+-- an octal escape of so many digits, one at least, up to 377
+abbrev pub octal_digits : ℕ → List ℕ → Option (ℕ × ℕ)
+octal_digits n bs = let b = value_behind 8 0 (take n bs) in
+    if n == 0 || nat_le 256 b then None else Some (b, n)
+
+-- an octal escape: the digits at the head, three at most
+abbrev pub octal_escape : List ℕ → Option (ℕ × ℕ)
+octal_escape bs = octal_digits (prefix_len is_octal (take 3 bs)) bs
+
+-- the byte of the escape whose backslash stands before these bytes, and how many of them it has
+abbrev pub escape : List ℕ → Option (ℕ × ℕ)
+escape [] = None
+escape (b ∷ bs) =
+    if b == 110 then Some (10, 1) else
+    if b == 116 then Some (9, 1) else
+    if b == 92 || b == 34 then Some (b, 1) else octal_escape (b ∷ bs)
+
+-- a LF comes
+abbrev pub begins_with_lf : List ℕ → Bool
+begins_with_lf [] = false
+begins_with_lf (b ∷ bs) = b == 10
+
+-- a line's end comes: LF, or CR and LF
+abbrev pub ends_line : List ℕ → Bool
+ends_line [] = true
+ends_line (b ∷ bs) = b == 10 || (b == 13 && begins_with_lf bs)
+
+-- an escape, whose backslash counts, or why it is none
+abbrev pub escaped : Option (ℕ × ℕ) → Result (Option (ℕ × ℕ)) FaultKind
+escaped None = Err bad_token
+escaped (Some e) = Ok (Some (e.0, e.1 + 1))
+
+-- the piece of a string at the head of these bytes: a byte of it and how many bytes spell it, or nothing at
+-- its closing quote
+abbrev pub piece_at : List ℕ → Result (Option (ℕ × ℕ)) FaultKind
+piece_at [] = Err open_string
+piece_at (b ∷ bs) =
+    if ends_line (b ∷ bs) then Err open_string else
+    if b == 34 then Ok None else
+    if b == 92 then escaped (escape bs) else Ok (Some (b, 1))
+
+-- one byte, and n bytes of spelling, before the rest
+abbrev pub longer : ℕ → ℕ → Result (List ℕ × ℕ) FaultKind → Result (List ℕ × ℕ) FaultKind
+longer b n (Ok s) = Ok (b ∷ s.0, n + s.1)
+longer b n (Err k) = Err k
+
+-- a piece of a string, and what `more` reads behind it
+abbrev pub from_piece : Result (Option (ℕ × ℕ)) FaultKind → List ℕ → (List ℕ → Result (List ℕ × ℕ) FaultKind) → Result (List ℕ × ℕ) FaultKind
+from_piece (Err k) bs more = Err k
+from_piece (Ok None) bs more = Ok ([], 1)
+from_piece (Ok (Some p)) bs more = longer p.0 p.1 (more (drop p.1 bs))
+
+-- The bytes of the string behind whose first quote these stand, and how many of them it has, in at most n
+-- pieces. The first of a line's end and another escape is the fault.
+abbrev pub string_from : ℕ → List ℕ → Result (List ℕ × ℕ) FaultKind
+string_from zero bs = Err open_string
+string_from (suc n) bs = from_piece (piece_at bs) bs (string_from n)
+
+-- the same, where each piece takes a byte and the end one step
+abbrev pub string_at : List ℕ → Result (List ℕ × ℕ) FaultKind
+string_at bs = string_from (length bs + 1) bs

@@ -1,0 +1,123 @@
+//! Bytes: their classes, and what stands at the head of a list of them.
+
+ghost use Rattle.std.specs.Prelude.{◌≡◌, ◌+◌, ◌-◌, ◌≤◌, ◌<◌, ◌^◌, ◌∷◌, [], length, take, drop, MatchOption};
+ghost use Rattle.std.specs.List.{prefix_len};
+ghost use Rattle.plain_lex.specs.Bytes as b;
+
+/// The first byte and those behind it.
+pub fn next(bytes: &[u8]) -> Option<(u8, &[u8])>
+    ensures { MatchOption result (bytes.now ≡ []) (λ x. bytes.now ≡ x.0 ∷ x.1.now) }
+{
+    match bytes.split_first() {
+        Some((first, rest)) => Some((*first, rest)),
+        None => None,
+    }
+}
+
+/// What stands behind the first `n` bytes.
+pub fn behind(bytes: &[u8], n: usize) -> &[u8]
+    requires { n ≤ length bytes.now }
+    ensures { result.now ≡ drop n bytes.now }
+{
+    bytes.split_at(n).1
+}
+
+/// The line behind a byte that stands on this line.
+pub fn line_behind(line: u32, byte: u8) -> u32
+    requires { line < 2 ^ 32 - 1 }
+    ensures { result ≡ b.line_behind line byte }
+{
+    if byte == b'\n' { line + 1 } else { line }
+}
+
+/// Space, tab, LF, FF and CR.
+pub fn is_white(byte: u8) -> bool
+    ensures { result ≡ b.is_white byte }
+{
+    byte == 32 || byte == 9 || byte == 10 || byte == 12 || byte == 13
+}
+
+/// A digit.
+pub fn is_digit(byte: u8) -> bool
+    ensures { result ≡ b.is_digit byte }
+{
+    byte >= b'0' && byte <= b'9'
+}
+
+/// A letter or `_`.
+pub fn begins_name(byte: u8) -> bool
+    ensures { result ≡ b.begins_name byte }
+{
+    byte >= b'A' && byte <= b'Z' || byte >= b'a' && byte <= b'z' || byte == b'_'
+}
+
+fn is_in_name(byte: u8) -> bool
+    ensures { result ≡ b.is_in_name byte }
+{
+    begins_name(byte) || is_digit(byte) || byte == b'$'
+}
+
+fn is_in_escaped(byte: u8) -> bool
+    ensures { result ≡ b.is_in_escaped byte }
+{
+    byte >= 33 && byte <= 126
+}
+
+fn count_in_name(bytes: &[u8]) -> usize
+    ensures count { result ≡ prefix_len b.is_in_name bytes.now }
+    ensures within { result ≤ length bytes.now }
+{
+    bytes.iter().take_while(|byte| is_in_name(**byte)).count()
+}
+
+/// How many bytes the name at the head has; 0 where none stands there.
+pub fn name_length(bytes: &[u8]) -> usize
+    ensures count { result ≡ b.name_length bytes.now }
+    ensures within { result ≤ length bytes.now }
+{
+    match next(bytes) {
+        Some((first, behind)) => name_length_by(first, behind),
+        None => 0,
+    }
+}
+
+// The same, by the first byte and those behind it.
+fn name_length_by(first: u8, behind: &[u8]) -> usize
+    ensures count { result ≡ b.name_length (first ∷ behind.now) }
+    ensures within { result ≤ length behind.now + 1 }
+{
+    if begins_name(first) {
+        count_in_name(behind) + 1
+    } else {
+        0
+    }
+}
+
+/// How many bytes the escaped name behind a backslash has.
+pub fn escaped_length(bytes: &[u8]) -> usize
+    ensures count { result ≡ prefix_len b.is_in_escaped bytes.now }
+    ensures within { result ≤ length bytes.now }
+{
+    bytes
+        .iter()
+        .take_while(|byte| is_in_escaped(**byte))
+        .count()
+}
+
+fn is_plain_byte(byte: u8) -> bool
+    ensures { result ≡ b.is_plain_byte byte }
+{
+    (is_white(byte) || byte >= 32 && byte <= 126) && byte != b'`'
+}
+
+/// Whether each byte is tab, LF, FF, CR or 32 to 126, and none a backtick.
+pub fn is_plain(text: &[u8]) -> bool
+    ensures { result ≡ b.is_plain text.now }
+{
+    for byte in text {
+        if !is_plain_byte(*byte) {
+            return false;
+        }
+    }
+    true
+}

@@ -1,0 +1,126 @@
+//! Attributes: how many bytes are passed over.
+
+ghost use Rattle.std.specs.Prelude.{◌≡◌, ◌+◌, ◌≤◌, ◌<◌, ◌∷◌, ◌^◌, length, IfSome, IsTrue};
+ghost use Rattle.vl_lex.specs.Attributes as a;
+ghost use Rattle.vl_lex.specs.declared.attributes.Within.TheVariants as within;
+
+use crate::bytes::{is_white, next};
+
+/// Where a byte of an attribute stands: outside strings, in a string, or behind a backslash in one.
+#[derive(Clone, Copy, Debug, PartialEq, Eq)]
+pub enum Within {
+    Outside,
+    Quoted,
+    Escaping,
+}
+
+fn begins_with(byte: u8, bytes: &[u8]) -> bool
+    ensures { result ≡ a.begins_with byte bytes.now }
+{
+    match next(bytes) {
+        Some((first, _)) => byte == first,
+        None => false,
+    }
+}
+
+fn behind_white(bytes: &[u8]) -> &[u8]
+    ensures { result.now ≡ a.behind_white bytes.now }
+{
+    let mut rest = bytes;
+    while let Some((first, after)) = next(rest) {
+        if !is_white(first) {
+            return rest;
+        }
+        rest = after;
+    }
+    rest
+}
+
+// The same behind a parenthesis.
+fn star_opens(bytes: &[u8]) -> bool
+    ensures { result ≡ a.star_opens bytes.now }
+{
+    match next(bytes) {
+        Some((first, behind)) => first == b'*' && !begins_with(b')', behind_white(behind)),
+        None => false,
+    }
+}
+
+/// Whether an attribute begins here: `(*`, not followed by `)` behind white space.
+pub fn opens_attribute(bytes: &[u8]) -> bool
+    ensures { result ≡ a.opens_attribute bytes.now }
+{
+    match next(bytes) {
+        Some((first, behind)) => first == b'(' && star_opens(behind),
+        None => false,
+    }
+}
+
+// Where the byte behind this one stands.
+fn after_byte(at: Within, byte: u8) -> Within
+    ensures { result ≡ a.after_byte at byte }
+{
+    match at {
+        Within::Outside => {
+            if byte == b'"' {
+                Within::Quoted
+            } else {
+                Within::Outside
+            }
+        }
+        Within::Quoted => {
+            if byte == b'"' || byte == b'\n' {
+                Within::Outside
+            } else if byte == b'\\' {
+                Within::Escaping
+            } else {
+                Within::Quoted
+            }
+        }
+        Within::Escaping => {
+            if byte == b'\n' {
+                Within::Outside
+            } else {
+                Within::Quoted
+            }
+        }
+    }
+}
+
+// Whether `*)` stands here.
+fn is_close(bytes: &[u8]) -> bool
+    ensures { result ≡ a.ends_attribute within.Outside bytes.now }
+{
+    match next(bytes) {
+        Some((first, behind)) => first == b'*' && begins_with(b')', behind),
+        None => false,
+    }
+}
+
+// Whether the attribute ends here.
+fn ends_attribute(at: Within, bytes: &[u8]) -> bool
+    ensures { result ≡ a.ends_attribute at bytes.now }
+{
+    match at {
+        Within::Outside => is_close(bytes),
+        Within::Quoted => false,
+        Within::Escaping => false,
+    }
+}
+
+/// How many bytes lead to the next `*)` outside strings, and it with them.
+pub fn close_length(bytes: &[u8]) -> Option<usize>
+    ensures length { result ≡ a.close_from within.Outside bytes.now }
+    ensures within { IfSome result (λ n. n ≤ length bytes.now) }
+{
+    let mut at = Within::Outside;
+    let mut rest = bytes;
+    while let Some((first, after)) = next(rest) {
+        if ends_attribute(at, rest) {
+            return Some(bytes.len() - rest.len() + 2);
+        }
+        at = after_byte(at, first);
+        rest = after;
+    }
+    None
+}

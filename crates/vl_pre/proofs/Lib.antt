@@ -1,0 +1,13 @@
+pub mod BlankLaws
+pub mod CleanLaws
+pub mod CleanTextExamples
+pub mod CursorLaws
+pub mod DirectiveLaws
+pub mod KeptLaws
+pub mod LineLaws
+pub mod MacroLaws
+pub mod PieceLaws
+pub mod PlainLaws
+pub mod ReadingLaws
+pub mod StepLaws
+pub mod WriteLaws

@@ -1,0 +1,123 @@
+-- Clean text: what a text says once comments, directives and macros are replaced (IEEE 1364-2005, 3.3 and 19).
+use Rattle.std.specs.Prelude.{ℕ, zero, suc, Bool, true, false, List, [], ◌∷◌, drop, length, Option, Some, None, Result, Ok, Err}
+use Rattle.vl_pre.specs.declared.pieces.First.{First}
+use Rattle.vl_pre.specs.declared.pieces.First.TheVariants.{LineComment, BlockComment, Quote, Tick}
+use Rattle.vl_pre.specs.declared.names.Directive.{Directive}
+use Rattle.vl_pre.specs.declared.names.Ticked.{Ticked}
+use Rattle.vl_pre.specs.declared.names.Ticked.TheVariants.{NoName, Named, Macro}
+use Rattle.vl_pre.specs.declared.conditions.Condition.{Condition}
+use Rattle.vl_pre.specs.Bytes.{Placed, Text, placed, all_at, bytes, name_at, most_clean}
+use Rattle.vl_pre.specs.Pieces.{bad_directive, unbalanced, unknown_macro, macro_depth, too_long, Fault, fault, Part, gives, stops, fails, go_on, and_then, first, from_stop, behind_block, kept_length, piece}
+use Rattle.vl_pre.specs.Directives.{is_conditional, ticked, Macros, no_macros, Place, is_read, After, went, directive_step}
+
+-- ---- macros
+
+-- a backtick with this name in a body: the use of a macro, which gives what `expand` says
+abbrev pub body_tick : (List ℕ → Part) → ℕ → Ticked → Text → Part
+body_tick expand line Macro ts = record (expand (name_at ts)) { rest = drop (length (name_at ts)) ts }
+body_tick expand line _ ts = fails bad_directive line
+
+-- the piece at the head of a body
+abbrev pub body_piece : (List ℕ → Part) → ℕ → First → Placed → Text → Part
+body_piece expand line Tick c ts = body_tick expand line (ticked (name_at ts)) ts
+body_piece expand line f c ts = piece false f c ts
+
+-- what a body gives on this line, in at most n pieces: its own bytes, and what the macros that it uses give
+abbrev pub body_reading : (List ℕ → Part) → ℕ → ℕ → Text → Part
+body_reading expand line n [] = gives [] []
+body_reading expand line zero (c ∷ ts) = gives [] (c ∷ ts)
+body_reading expand line (suc n) (c ∷ ts) = go_on (body_piece expand line (first (bytes (c ∷ ts))) c ts) (body_reading expand line n)
+
+-- what a use on this line gives, by what its body gives, if it has one
+abbrev pub expanded : ℕ → (List ℕ → Part) → Option (List ℕ) → Part
+expanded line body_gives None = fails unknown_macro line
+expanded line body_gives (Some body) = body_gives body
+
+-- what the use of a macro gives on this line, where so many expansions may stand in one another (19.3.1)
+abbrev pub use_of : ℕ → Macros → ℕ → List ℕ → Part
+use_of zero macros line name = expanded line (λ body. fails macro_depth line) (macros name)
+use_of (suc depth) macros line name = expanded line (λ body. body_reading (use_of depth macros line) line (length body) (all_at line body)) (macros name)
+
+-- an expansion inside this many others is a fault
+abbrev pub most_depth : ℕ
+most_depth = 16
+
+-- ---- the text
+
+-- a part of a text, and what is defined and open behind it
+pub record Step : Type 0 where
+  pub part : Part
+  pub place : Place
+
+-- nothing is given
+abbrev pub nothing : Place → Result After Fault → Step
+nothing place (Ok a) = record { part = gives [] a.rest; place = a.place }
+nothing place (Err f) = record { part = stops f; place = place }
+
+-- a backtick with this name in text that is read
+abbrev pub tick_step : Ticked → ℕ → Place → Text → Step
+tick_step NoName line place ts = record { part = fails bad_directive line; place = place }
+tick_step (Named d) line place ts = nothing place (directive_step d line place (drop (length (name_at ts)) ts))
+tick_step Macro line place ts = record { part = record (use_of most_depth place.macros line (name_at ts)) { rest = drop (length (name_at ts)) ts }; place = place }
+
+-- what stands at the head of a text that is read
+abbrev pub read_step : First → Place → Placed → Text → Step
+read_step Tick place c ts = tick_step (ticked (name_at ts)) c.line place ts
+read_step f place c ts = record { part = piece false f c ts; place = place }
+
+-- a directive in skipped text, and whether it is a conditional one
+abbrev pub skipped_directive : Bool → Directive → ℕ → Place → Text → Result After Fault
+skipped_directive true d line place ts = directive_step d line place (drop (length (name_at ts)) ts)
+skipped_directive false d line place ts = went place ts
+
+-- a backtick with this name in skipped text
+abbrev pub skipped_tick : Ticked → ℕ → Place → Text → Result After Fault
+skipped_tick (Named d) line place ts = skipped_directive (is_conditional d) d line place ts
+skipped_tick _ line place ts = went place ts
+
+-- what stands at the head of skipped text: comments, strings and the conditional directives are recognised,
+-- and nothing else (19.4)
+abbrev pub skipped_step : First → Place → Placed → Text → Result After Fault
+skipped_step LineComment place c ts = went place (from_stop false ts)
+skipped_step BlockComment place c ts = and_then (behind_block (c ∷ ts)) (went place)
+skipped_step Quote place c ts = went place (drop (kept_length false Quote (bytes (c ∷ ts))) (c ∷ ts))
+skipped_step Tick place c ts = skipped_tick (ticked (name_at ts)) c.line place ts
+skipped_step _ place c ts = went place ts
+
+-- what stands at the head of a text that is read, or of one that is skipped
+abbrev pub step : Bool → Place → Placed → Text → Step
+step true place c ts = read_step (first (bytes (c ∷ ts))) place c ts
+step false place c ts = nothing place (skipped_step (first (bytes (c ∷ ts))) place c ts)
+
+-- the end of the text: an open condition is a fault at its line, the innermost first
+abbrev pub at_end : List Condition → Part
+at_end [] = gives [] []
+at_end (c ∷ cs) = fails unbalanced c.line
+
+-- what a text gives from this place on, in at most n steps
+abbrev pub reading_from : ℕ → Place → Text → Part
+reading_from n place [] = at_end place.conditions
+reading_from zero place (c ∷ ts) = at_end place.conditions
+reading_from (suc n) place (c ∷ ts) = let s = step (is_read place.conditions) place c ts in go_on s.part (reading_from n s.place)
+
+-- nothing is defined at the start
+abbrev pub start : Place
+start = record { macros = no_macros; conditions = [] }
+
+-- the bytes given before the first fault, and that fault; each step takes a byte, so the length bounds them
+abbrev pub reading : List ℕ → Part
+reading bs = reading_from (length bs) start (placed 1 bs)
+
+-- what is given by this many bytes at most: those behind them, the fault behind those given, and the bytes
+abbrev pub answer : Text → Option Fault → Text → Result Text Fault
+answer (c ∷ more) f given = Err (fault too_long c.line)
+answer [] (Some f) given = Err f
+answer [] None given = Ok given
+
+-- a reading that gives at most so many bytes
+abbrev pub within : ℕ → Part → Result Text Fault
+within most p = answer (drop most p.given) p.fault p.given
+
+-- the clean bytes of a text with their lines, or its first fault
+abbrev pub clean_text : List ℕ → Result Text Fault
+clean_text bs = within most_clean (reading bs)

@@ -1,0 +1,205 @@
+-- Directives: definitions, conditions, and what is passed over (IEEE 1364-2005, 19).
+use Rattle.std.specs.Prelude.{ℕ, zero, suc, Bool, true, false, not, ◌&&◌, ◌||◌, if◌then◌else◌, List, [], ◌∷◌, drop, length, reverse, Option, Some, None, Result, Ok, Err, is_some, codes, bytes_eq}
+use Rattle.std.specs.List.{prefix_len}
+use Rattle.vl_pre.specs.declared.names.Directive.{Directive}
+use Rattle.vl_pre.specs.declared.names.Directive.TheVariants.{Define, Undef, Ifdef, Ifndef, Elsif, Else, Endif, Passed, Include}
+use Rattle.vl_pre.specs.declared.names.Ticked.{Ticked}
+use Rattle.vl_pre.specs.declared.names.Ticked.TheVariants.{NoName, Named, Macro}
+use Rattle.vl_pre.specs.declared.conditions.Branch.{Branch}
+use Rattle.vl_pre.specs.declared.conditions.Branch.TheVariants.{Waiting, Reading, Over}
+use Rattle.vl_pre.specs.declared.conditions.Condition.{Condition}
+use Rattle.vl_pre.specs.Bytes.{Text, bytes, begins, at_line_end, is_white, name_at}
+use Rattle.vl_pre.specs.Pieces.{bad_directive, unbalanced, Fault, fault, Part, and_then, behind_block, rest_of_line}
+
+-- ---- names behind backticks
+
+-- what a table has under a word
+abbrev pub entry : {X : Type 0} → List (List ℕ × X) → List ℕ → Option X
+entry [] word = None
+entry (e ∷ es) word = if bytes_eq e.0 word then Some e.1 else entry es word
+
+-- the directives by their names; a name that isn't here is a macro's
+abbrev pub directives : List (List ℕ × Directive)
+directives =
+    (codes "define", Define) ∷ (codes "undef", Undef) ∷
+    (codes "ifdef", Ifdef) ∷ (codes "ifndef", Ifndef) ∷ (codes "elsif", Elsif) ∷ (codes "else", Else) ∷ (codes "endif", Endif) ∷
+    (codes "timescale", Passed) ∷ (codes "default_nettype", Passed) ∷ (codes "resetall", Passed) ∷ (codes "celldefine", Passed) ∷ (codes "endcelldefine", Passed) ∷
+    (codes "include", Include) ∷ []
+
+-- the five that are recognised in skipped text too (19.4)
+abbrev pub is_conditional : Directive → Bool
+is_conditional Ifdef = true
+is_conditional Ifndef = true
+is_conditional Elsif = true
+is_conditional Else = true
+is_conditional Endif = true
+is_conditional _ = false
+
+-- a name in the table is a directive's
+abbrev pub named : Option Directive → Ticked
+named None = Macro
+named (Some d) = Named d
+
+-- what the name behind a backtick makes it
+abbrev pub ticked : List ℕ → Ticked
+ticked [] = NoName
+ticked (b ∷ bs) = named (entry directives (b ∷ bs))
+
+-- ---- what is defined, and which conditions are open
+
+-- the body of each name that is defined
+abbrev pub Macros : Type 0
+Macros = List ℕ → Option (List ℕ)
+
+-- nothing is defined
+abbrev pub no_macros : Macros
+no_macros name = None
+
+-- a later definition takes an earlier one's place (19.3.1)
+abbrev pub defined : List ℕ → List ℕ → Macros → Macros
+defined name body macros x = if bytes_eq name x then Some body else macros x
+
+-- without this name (19.3.2)
+abbrev pub undefined : List ℕ → Macros → Macros
+undefined name macros x = if bytes_eq name x then None else macros x
+
+-- the macros, and the open conditions from the innermost
+pub record Place : Type 0 where
+  pub macros : Macros
+  pub conditions : List Condition
+
+-- with these macros
+abbrev pub with_macros : Macros → Place → Place
+with_macros macros place = record place { macros = macros }
+
+-- this branch is read
+abbrev pub is_reading : Branch → Bool
+is_reading Reading = true
+is_reading _ = false
+
+-- text is read, and not skipped: a condition in skipped text is over, so the innermost tells
+abbrev pub is_read : List Condition → Bool
+is_read [] = true
+is_read (c ∷ cs) = is_reading c.branch
+
+-- the first branch of a condition: whether text is read there, and whether it holds (19.4)
+abbrev pub first_branch : Bool → Bool → Branch
+first_branch false holds = Over
+first_branch true true = Reading
+first_branch true false = Waiting
+
+-- the next branch, and whether it holds (19.4)
+abbrev pub next_branch : Branch → Bool → Branch
+next_branch Waiting true = Reading
+next_branch Waiting false = Waiting
+next_branch _ holds = Over
+
+-- ---- the NAME of a directive
+
+-- white space, and no line's end
+abbrev pub at_blank : List ℕ → Bool
+at_blank [] = false
+at_blank (b ∷ bs) = is_white b && not (at_line_end (b ∷ bs))
+
+-- between a directive and its NAME: a comment from `/*`, which is a blank, or a blank
+abbrev pub at_gap : List ℕ → Bool
+at_gap bs = begins (codes "/*") bs || at_blank bs
+
+-- what is behind the comment (true) or the blank at the head
+abbrev pub behind_one : Bool → Text → Result Text Fault
+behind_one true ts = behind_block ts
+behind_one false ts = Ok (drop 1 ts)
+
+-- whether the gap goes on, where `more` reads on
+abbrev pub gap_from : Bool → Text → (Text → Result Text Fault) → Result Text Fault
+gap_from true ts more = and_then (behind_one (begins (codes "/*") (bytes ts)) ts) more
+gap_from false ts more = Ok ts
+
+-- what is behind the gap at the head of a text, in at most n pieces
+abbrev pub behind_gap : ℕ → Text → Result Text Fault
+behind_gap n [] = Ok []
+behind_gap zero (c ∷ ts) = Ok (c ∷ ts)
+behind_gap (suc n) (c ∷ ts) = gap_from (at_gap (bytes (c ∷ ts))) (c ∷ ts) (behind_gap n)
+
+-- a name that is a macro's, and the text behind it; any other is a fault of the directive on this line
+abbrev pub macro_name : ℕ → Ticked → Text → Result (List ℕ × Text) Fault
+macro_name line Macro ts = Ok (name_at ts, drop (length (name_at ts)) ts)
+macro_name line _ ts = Err (fault bad_directive line)
+
+-- the NAME of the directive on this line, and the text behind it
+abbrev pub name_of : ℕ → Text → Result (List ℕ × Text) Fault
+name_of line ts = and_then (behind_gap (length ts) ts) (λ rest. macro_name line (ticked (name_at rest)) rest)
+
+-- ---- what a directive does
+
+-- where the text goes on, and what is defined and open there. A directive gives no bytes
+pub record After : Type 0 where
+  pub place : Place
+  pub rest : Text
+
+-- the text goes on from this place
+abbrev pub went : Place → Text → Result After Fault
+went place rest = Ok (record { place = place; rest = rest })
+
+-- white space at the head is no part of these bytes
+abbrev pub without_blanks : List ℕ → List ℕ
+without_blanks bs = drop (prefix_len is_white bs) bs
+
+-- white space at either end is no part of a body (19.3.1)
+abbrev pub trimmed : List ℕ → List ℕ
+trimmed bs = reverse (without_blanks (reverse (without_blanks bs)))
+
+-- the bytes of a part and what is left behind it, or its fault
+abbrev pub whole_by : Option Fault → Part → Result (List ℕ × Text) Fault
+whole_by None p = Ok (bytes p.given, p.rest)
+whole_by (Some f) p = Err f
+
+-- the rest of a line and what is left behind it: the line's end
+abbrev pub line_of : Bool → Text → Result (List ℕ × Text) Fault
+line_of continues ts = let p = rest_of_line (length ts) continues ts in whole_by p.fault p
+
+-- `define` behind its NAME, and whether `(` stands there: the body is the rest of the line (19.3.1)
+abbrev pub define_by : Bool → ℕ → Place → List ℕ → Text → Result After Fault
+define_by true line place name ts = Err (fault bad_directive line)
+define_by false line place name ts = and_then (line_of true ts) (λ body. went (with_macros (defined name (trimmed body.0) place.macros) place) body.1)
+
+-- whether the condition of `ifdef` (true) or `ifndef` (false) holds, by whether its name is defined (19.4)
+abbrev pub holds : Bool → Bool → Bool
+holds true is_there = is_there
+holds false is_there = not is_there
+
+-- with a condition that opens on this line, and holds or not
+abbrev pub opened : ℕ → Bool → Place → Place
+opened line first_holds place = record place { conditions = record { line = line; branch = first_branch (is_read place.conditions) first_holds; last = false } ∷ place.conditions }
+
+-- `ifdef` (true) or `ifndef` (false) opens a condition
+abbrev pub open_step : Bool → ℕ → Place → Text → Result After Fault
+open_step wanted line place ts = and_then (name_of line ts) (λ n. went (opened line (holds wanted (is_some (place.macros n.0))) place) n.1)
+
+-- the innermost condition goes on with its next branch, unless its `else` was read: whether that branch holds,
+-- and whether it is the one of `else`
+abbrev pub branch_by : Bool → ℕ → Place → Condition → List Condition → Bool → Bool → Text → Result After Fault
+branch_by true line place c cs holds last rest = Err (fault unbalanced line)
+branch_by false line place c cs holds last rest = went (record place { conditions = record c { branch = next_branch c.branch holds; last = last } ∷ cs }) rest
+
+-- the same, where a condition is open
+abbrev pub branch_step : ℕ → Place → List Condition → Bool → Bool → Text → Result After Fault
+branch_step line place [] holds last rest = Err (fault unbalanced line)
+branch_step line place (c ∷ cs) holds last rest = branch_by c.last line place c cs holds last rest
+
+-- the innermost condition ends
+abbrev pub close_step : ℕ → Place → List Condition → Text → Result After Fault
+close_step line place [] rest = Err (fault unbalanced line)
+close_step line place (c ∷ cs) rest = went (record place { conditions = cs }) rest
+
+-- what a directive on this line does, and how the text goes on behind it
+abbrev pub directive_step : Directive → ℕ → Place → Text → Result After Fault
+directive_step Define line place ts = and_then (name_of line ts) (λ n. define_by (begins (codes "(") (bytes n.1)) line place n.0 n.1)
+directive_step Undef line place ts = and_then (name_of line ts) (λ n. went (with_macros (undefined n.0 place.macros) place) n.1)
+directive_step Ifdef line place ts = open_step true line place ts
+directive_step Ifndef line place ts = open_step false line place ts
+directive_step Elsif line place ts = and_then (name_of line ts) (λ n. branch_step line place place.conditions (is_some (place.macros n.0)) false n.1)
+directive_step Else line place ts = branch_step line place place.conditions true true ts
+directive_step Endif line place ts = close_step line place place.conditions ts
+directive_step Passed line place ts = and_then (line_of false ts) (λ passed. went place passed.1)
+directive_step Include line place ts = Err (fault bad_directive line)

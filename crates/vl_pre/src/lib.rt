@@ -1,0 +1,58 @@
+//! Clean text: the text of a design once comments, directives and macros are replaced.
+//!
+//! Below: `dt_core`, `indexmap` (the table of macros). Above: `vl_lex` (clean text to tokens).
+//! Promise: `preprocess` gives exactly the bytes that `specs/CleanText` says, each with its line, or exactly the first fault in order of
+//! reading, with its line. A `Clean` is a list of bytes with their lines, at most 16,777,216 of them.
+//! Time is linear in the text and the clean text, but for uses of macros: where one use on a line of the text stands round others, each
+//! body that gives nothing is read at most 17 times, and each other reading of a body gives a byte.
+//! Not said: that memory is enough; the time.
+#![tactic(auto)]
+
+ghost use Rattle.std.specs.Prelude.{◌≡◌, ◌-◌, ◌^◌, ◌<◌, length, Ok, IfOk, IfErr};
+ghost use Rattle.vl_pre.specs.CleanText.{clean_text};
+ghost use Rattle.vl_pre.specs.Laws.{PlainComesThrough, UseReadsAsBody};
+ghost use Rattle.vl_pre.specs.Faults.{HasFault, told};
+
+mod clean;
+mod conditions;
+mod cursor;
+mod directives;
+mod fault;
+mod lines;
+mod macros;
+mod names;
+mod pieces;
+mod place;
+mod reading;
+#[cfg(test)]
+mod tests;
+
+pub use clean::Clean;
+use cursor::Cursor;
+pub use fault::PreFault;
+use place::Place;
+use reading::read_all;
+use std::alloc::Global;
+
+/// The clean text of a text, or its first fault in order of reading.
+pub fn preprocess(alloc: Global, text: &[u8]) -> Result<Clean, PreFault>
+    requires { length text.now < 2 ^ 32 - 1 }
+    ensures clean { IfOk result (λ clean. clean_text text.now ≡ Ok clean) }
+    ensures fault { IfErr result (λ e. HasFault (clean_text text.now) (told e)) }
+{
+    let mut out = Clean::new(alloc);
+    let mut place = Place::new(alloc);
+    let mut at = Cursor::over(text);
+    read_all(alloc, &mut at, &mut place, &mut out)?;
+    Ok(out)
+}
+
+/// A text without backtick, comment and bad byte comes through unchanged, with its lines.
+pub fn plain_text_law()
+    ensures { PlainComesThrough }
+{}
+
+/// The use of a macro whose body is such a text reads as the body does, on the line of the use.
+pub fn macro_use_law()
+    ensures { UseReadsAsBody }
+{}

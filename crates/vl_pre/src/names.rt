@@ -1,0 +1,205 @@
+//! Names behind backticks, and the NAME of a directive.
+
+ghost use Rattle.std.specs.Prelude.{◌≡◌, ◌<◌, length, codes};
+ghost use Rattle.vl_pre.specs.Bytes as b;
+ghost use Rattle.vl_pre.specs.Directives as d;
+ghost use Rattle.vl_pre.specs.Reading.{pairs, Finds, Moves};
+
+use crate::cursor::{Cursor, name_at, skip, skip_block};
+use crate::fault::PreFault;
+use crate::pieces::{at_line_end, is_white, next};
+
+/// A directive.
+#[derive(Clone, Copy, Debug)]
+pub enum Directive {
+    Define,
+    Undef,
+    Ifdef,
+    Ifndef,
+    Elsif,
+    Else,
+    Endif,
+    /// Passed over with the rest of its line.
+    Passed,
+    Include,
+}
+
+/// What stands behind a backtick.
+#[derive(Clone, Copy, Debug)]
+pub enum Ticked {
+    NoName,
+    Named(Directive),
+    Macro,
+}
+
+/// A name and the directive that it is.
+#[derive(Clone, Copy)]
+pub struct Entry {
+    pub word: &'static [u8],
+    pub directive: Directive,
+}
+
+static DIRECTIVES: [Entry; 13] = [
+    Entry {
+        word: b"define",
+        directive: Directive::Define,
+    },
+    Entry {
+        word: b"undef",
+        directive: Directive::Undef,
+    },
+    Entry {
+        word: b"ifdef",
+        directive: Directive::Ifdef,
+    },
+    Entry {
+        word: b"ifndef",
+        directive: Directive::Ifndef,
+    },
+    Entry {
+        word: b"elsif",
+        directive: Directive::Elsif,
+    },
+    Entry {
+        word: b"else",
+        directive: Directive::Else,
+    },
+    Entry {
+        word: b"endif",
+        directive: Directive::Endif,
+    },
+    Entry {
+        word: b"timescale",
+        directive: Directive::Passed,
+    },
+    Entry {
+        word: b"default_nettype",
+        directive: Directive::Passed,
+    },
+    Entry {
+        word: b"resetall",
+        directive: Directive::Passed,
+    },
+    Entry {
+        word: b"celldefine",
+        directive: Directive::Passed,
+    },
+    Entry {
+        word: b"endcelldefine",
+        directive: Directive::Passed,
+    },
+    Entry {
+        word: b"include",
+        directive: Directive::Include,
+    },
+];
+
+fn find(entries: &[Entry], name: &[u8]) -> Option<Directive>
+    ensures { result ≡ d.entry (pairs entries.now) name.now }
+{
+    for entry in entries {
+        if entry.word == name {
+            return Some(entry.directive);
+        }
+    }
+    None
+}
+
+// The directive of this name.
+fn directive_of(name: &[u8]) -> Option<Directive>
+    ensures { result ≡ d.entry d.directives name.now }
+{
+    find(DIRECTIVES.as_slice(), name)
+}
+
+/// What the name behind a backtick makes it.
+pub fn behind_tick(name: &[u8]) -> Ticked
+    ensures { result ≡ d.ticked name.now }
+{
+    match next(name) {
+        None => Ticked::NoName,
+        Some(_) => tick_by(directive_of(name)),
+    }
+}
+
+fn tick_by(found: Option<Directive>) -> Ticked
+    ensures { result ≡ d.named found }
+{
+    match found {
+        Some(directive) => Ticked::Named(directive),
+        None => Ticked::Macro,
+    }
+}
+
+/// Whether it is recognised in skipped text too.
+pub fn is_conditional(directive: Directive) -> bool
+    ensures { result ≡ d.is_conditional directive }
+{
+    match directive {
+        Directive::Ifdef
+        | Directive::Ifndef
+        | Directive::Elsif
+        | Directive::Else
+        | Directive::Endif => true,
+        _ => false,
+    }
+}
+
+// White space, and no line's end, comes.
+fn at_blank(bytes: &[u8]) -> bool
+    ensures { result ≡ d.at_blank bytes.now }
+{
+    match next(bytes) {
+        Some((first, _)) => is_white(first) && !at_line_end(bytes),
+        None => false,
+    }
+}
+
+fn at_comment(bytes: &[u8]) -> bool
+    ensures { result ≡ b.begins (codes "/*") bytes.now }
+{
+    bytes.starts_with(b"/*")
+}
+
+fn at_gap(bytes: &[u8]) -> bool
+    ensures { result ≡ d.at_gap bytes.now }
+{
+    at_comment(bytes) || at_blank(bytes)
+}
+
+// Goes on behind the comment or the blank at the head.
+fn skip_one(at: &mut Cursor) -> Result<(), PreFault>
+    ensures { Moves at.new (d.behind_one (b.begins (codes "/*") (b.bytes at.old)) at.old) result }
+{
+    if at_comment(at.bytes()) {
+        skip_block(at)?;
+    } else {
+        skip(at, 1);
+    }
+    Ok(())
+}
+
+// Goes on behind blanks and comments on the line.
+fn skip_gap(at: &mut Cursor) -> Result<(), PreFault>
+    ensures { Moves at.new (d.behind_gap (length at.old) at.old) result }
+{
+    while at_gap(at.bytes()) {
+        skip_one(at)?;
+    }
+    Ok(())
+}
+
+/// The NAME of the directive whose backtick stands on this line.
+pub fn name_of<'a>(at: &mut Cursor<'a>, line: u32) -> Result<&'a [u8], PreFault>
+    ensures { Finds at.new (d.name_of line at.old) result }
+{
+    skip_gap(at)?;
+    let name = name_at(at);
+    match behind_tick(name) {
+        Ticked::Macro => {
+            skip(at, name.len());
+            Ok(name)
+        }
+        _ => Err(PreFault::BadDirective { line }),
+    }
+}
