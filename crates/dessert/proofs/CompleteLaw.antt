@@ -4,11 +4,12 @@ use Rattle.std.specs.Prelude.{Option, Some, None}
 use Rattle.std.specs.Io.KnownBytes.{Consumes, IsAtEnd}
 use Rattle.vl_tree.specs.Tree.{Module}
 use Rattle.vl_meaning.specs.Objects.{data_inputs}
-use Rattle.vl_front.specs.OneCounter.{IsOneCounter, IsDesign, IsNoDesign}
-use Rattle.stim.specs.Stimulus.{IsStimulus, Begins, IsWhole}
+use Rattle.vl_front.specs.OneCounter.{IsOneCounter}
+use Rattle.stim.specs.Stimulus.{IsStimulus}
 use Rattle.dt_io.specs.Files.{IsLong}
-use Rattle.dessert.specs.Answer.{Outside, Status, quiet, failure, usage, design, input, file, reading, reporting, memory, number, allowed, bad, refused, Loaded, Ready, BadDesign, BadInput, BadFile, Answers}
-use Rattle.dessert.specs.Outcome.{layers, words_of, design_text, OneDesign, OneRefusal, Judges}
+use Rattle.dessert.specs.Answer.{Outside, Status, quiet, failure, usage, design, input, file, reading, writing, reporting, memory, number, allowed, bad, refused, Loaded, Answers}
+use Rattle.dessert.specs.Words.{Job, words_of}
+use Rattle.dessert.specs.Outcome.{layers, design_text, OneDesign, OneRefusal, Judges}
 use Rattle.dessert.specs.Complete.{AllWell}
 
 -- all that was left was taken
@@ -30,59 +31,63 @@ not_long None bytes e l h = h
 not_long (Some xs) bytes e l h = let s : xs ≡ bytes = cc in let k = ap (λ (b : List ℕ). length b) s in absurd (omega (arith, k))
 
 module _ (content : List ℕ → Option (List ℕ)) (words : List (List ℕ)) (old new : Outside) (w : AllWell content true words old new) where
-  same_name : (other : List ℕ) → words_of words ≡ allowed other → other ≡ w.name
-  same_name other e = let s : allowed other ≡ allowed w.name = sym e ∙ w.asked in cc
+  same_job : (other : Job) → words_of words ≡ allowed other → other ≡ w.job
+  same_job other e = let s : allowed other ≡ allowed w.job = sym e ∙ w.asked in cc
+
+  same_name : (other : Job) → words_of words ≡ allowed other → other.file ≡ w.job.file
+  same_name other e = ap (λ (j : Job). j.file) (same_job other e)
 
   -- the one file that was loaded is the one that is there
-  same_file : (other f : List ℕ) → other ≡ w.name → content other ≡ Some f → f ≡ w.file
+  same_file : (other f : List ℕ) → other ≡ w.job.file → content other ≡ Some f → f ≡ w.file
   same_file other f e l = let s : Some f ≡ Some w.file = sym l ∙ ap content e ∙ w.content_is in cc
 
   -- an accepted design is the module
-  the_design : (name : List ℕ) (files : List (List ℕ)) (m : Module) → words_of words ≡ allowed name → Loaded content true (name ∷ []) files → OneDesign files m → m ≡ w.the_module
-  the_design name [] m e l d = absurd l
-  the_design name (f ∷ g ∷ files) m e l d = absurd d
-  the_design name (f ∷ []) m e l d =
-      let s = same_file name f (same_name name e) (l.0 refl) in sym (d.only w.the_module (subst (λ (x : List ℕ). IsOneCounter (design_text x) w.the_module) (sym s) w.design))
+  the_design : (j : Job) (files : List (List ℕ)) (m : Module) → words_of words ≡ allowed j → Loaded content true (j.file ∷ []) files → OneDesign files m → m ≡ w.the_module
+  the_design j [] m e l d = absurd l
+  the_design j (f ∷ g ∷ files) m e l d = absurd d
+  the_design j (f ∷ []) m e l d =
+      let s = same_file j.file f (same_name j e) (l.0 refl) in sym (d.only w.the_module (subst (λ (x : List ℕ). IsOneCounter (design_text x) w.the_module) (sym s) w.design))
 
-  no_refusal : (name : List ℕ) (files : List (List ℕ)) (h : List ℕ) → words_of words ≡ allowed name → Loaded content true (name ∷ []) files → OneRefusal files h → ⊥
-  no_refusal name [] h e l d = absurd l
-  no_refusal name (f ∷ g ∷ files) h e l d = absurd d
-  no_refusal name (f ∷ []) h e l d =
-      let s = same_file name f (same_name name e) (l.0 refl) in d.0 w.the_module (subst (λ (x : List ℕ). IsOneCounter (design_text x) w.the_module) (sym s) w.design)
+  no_refusal : (j : Job) (files : List (List ℕ)) (h : List ℕ) → words_of words ≡ allowed j → Loaded content true (j.file ∷ []) files → OneRefusal files h → ⊥
+  no_refusal j [] h e l d = absurd l
+  no_refusal j (f ∷ g ∷ files) h e l d = absurd d
+  no_refusal j (f ∷ []) h e l d =
+      let s = same_file j.file f (same_name j e) (l.0 refl) in d.0 w.the_module (subst (λ (x : List ℕ). IsOneCounter (design_text x) w.the_module) (sym s) w.design)
 
   -- the stimulus isn't refused
-  no_short : (name h bytes : List ℕ) (m : Module) → m ≡ w.the_module → Consumes old.left new.left bytes → IsAtEnd new.left → Judges name m bytes (refused true h) → ⊥
+  no_short : (name : Job) (h bytes : List ℕ) (m : Module) → m ≡ w.the_module → Consumes old.left new.left bytes → IsAtEnd new.left → Judges name m bytes (refused true h) → ⊥
   no_short name h bytes m e c a j =
       let t = took_whole old.left new.left w.bytes bytes w.left c a in
       j.1 (w.rows, subst (λ (x : Module). IsStimulus (data_inputs x) w.rows bytes) (sym e) (subst (IsStimulus (data_inputs w.the_module) w.rows) (sym t) w.stimulus))
 
-  no_other : (name h bytes : List ℕ) (m : Module) → m ≡ w.the_module → Consumes old.left new.left bytes → Judges name m bytes (refused false h) → ⊥
+  no_other : (name : Job) (h bytes : List ℕ) (m : Module) → m ≡ w.the_module → Consumes old.left new.left bytes → Judges name m bytes (refused false h) → ⊥
   no_other name h bytes m e c j =
       let t = took_front old.left new.left w.bytes bytes w.left c in
       j.0 (t.0, w.rows, subst (λ (x : Module). IsStimulus (data_inputs x) w.rows (bytes ++ t.0)) (sym e) (subst (IsStimulus (data_inputs w.the_module) w.rows) t.1 w.stimulus))
 
-  no_input : (h : List ℕ) (short : Bool) (name bytes : List ℕ) (m : Module) → m ≡ w.the_module → Consumes old.left new.left bytes → (IsTrue short → IsAtEnd new.left)
+  no_input : (h : List ℕ) (short : Bool) (name : Job) (bytes : List ℕ) (m : Module) → m ≡ w.the_module → Consumes old.left new.left bytes → (IsTrue short → IsAtEnd new.left)
       → Judges name m bytes (refused short h) → ⊥
   no_input h true name bytes m e c a j = no_short name h bytes m e c (a refl) j
   no_input h false name bytes m e c a j = no_other name h bytes m e c j
 
-  no_file : (before : List (List ℕ)) (name : List ℕ) (after : List (List ℕ)) (job : List ℕ) → words_of words ≡ allowed job → job ∷ [] ≡ before ++ name ∷ after → IsLong (content name) 4194304 → ⊥
+  no_file : (before : List (List ℕ)) (name : List ℕ) (after : List (List ℕ)) (job : Job) → words_of words ≡ allowed job → job.file ∷ [] ≡ before ++ name ∷ after → IsLong (content name) 4194304 → ⊥
   no_file [] name after job e n l =
-      let s : job ≡ name = cc in not_long (content name) w.file (ap content (sym s ∙ same_name job e) ∙ w.content_is) w.within l
+      let s : job.file ≡ name = cc in not_long (content name) w.file (ap content (sym s ∙ same_name job e) ∙ w.content_is) w.within l
   no_file (b ∷ []) name after job e n l = absurd cc
   no_file (b ∷ c ∷ before) name after job e n l = absurd cc
 
   pub ends : (s : Status) → Answers layers content true words old new s → (number s ≡ 0) ⊎ ((number s ≡ 1) ⊎ (number s ≡ 9))
   ends quiet a = inl refl
   ends failure a = inr (inl refl)
-  ends usage a = let b = a.1.1 in let s : bad ≡ allowed w.name = sym b.words_are ∙ w.asked in absurd cc
-  ends design a = let b = a.1.1 in absurd (no_refusal b.job b.files a.1.0 b.words_are b.loaded b.refused)
+  ends usage a = let b = a.2.1 in let s : bad ≡ allowed w.job = sym b.words_are ∙ w.asked in absurd cc
+  ends design a = let b = a.2.1 in absurd (no_refusal b.job b.files a.1 b.words_are b.loaded b.refused)
   ends input a =
-      let b = a.1.1 in
-      absurd (no_input a.1.0 b.short b.job b.bytes b.the_design (the_design b.job b.ready.files b.the_design b.ready.words_are b.ready.loaded b.ready.accepted) b.taken b.at_end b.judged)
-  ends file a = let b = a.1.1 in elim b.cause [ inl c ↦ absurd (w.loads c.0) | inr c ↦ absurd (no_file b.before b.name b.after b.job b.words_are b.names_are (c.0 refl)) ]
-  ends reading a = absurd (w.reads a.1.1.rose)
-  ends reporting a = absurd (w.reports a.1.0)
+      let b = a.2.1 in
+      absurd (no_input a.1 b.short b.job b.bytes b.the_design (the_design b.job b.ready.files b.the_design b.ready.words_are b.ready.loaded b.ready.accepted) b.taken b.at_end b.judged)
+  ends file a = let b = a.2.1 in elim b.cause [ inl c ↦ absurd (w.loads c.0) | inr c ↦ absurd (no_file b.before b.name b.after b.job b.words_are b.names_are (c.0 refl)) ]
+  ends reading a = absurd (w.reads a.2.1.rose)
+  ends writing a = absurd (w.writes a.2.rose)
+  ends reporting a = absurd (w.reports a.0)
   ends memory a = inr (inr refl)
 
 -- the same, whether contents are told or not: where they aren't, all isn't well

@@ -9,18 +9,41 @@ use Rattle.vl_tree.proofs.GrammarExamples.{counter_tokens, counter_derives}
 use Rattle.vl_front.specs.OneCounter.{IsOneCounter}
 use Rattle.dessert.specs.Report.{Stop, stop_text, failure_text, quiet_text, file_failed_text, file_long_text}
 use Rattle.dessert.specs.Answer.{allowed, bad, done}
-use Rattle.dessert.specs.Outcome.{words_of, design_text, report_of, Judges}
+use Rattle.vcd_text.specs.Vcd.{code}
+use Rattle.dessert.specs.Words.{job, words_of}
+use Rattle.dessert.specs.Outcome.{design_text, output_of, report_of, Judges}
 
 -- ---- words
 
-sim_and_a_file : words_of (codes "sim" ∷ codes "a.v" ∷ []) ≡ allowed (codes "a.v")
+sim_and_a_file : words_of (codes "sim" ∷ codes "a.v" ∷ []) ≡ allowed (job 64 (codes "a.v"))
 sim_and_a_file = refl
+
+lag_and_a_file : words_of (codes "sim" ∷ codes "lag=4" ∷ codes "a.v" ∷ []) ≡ allowed (job 4 (codes "a.v"))
+lag_and_a_file = refl
+
+greatest_lag : words_of (codes "sim" ∷ codes "lag=16384" ∷ codes "a.v" ∷ []) ≡ allowed (job 16384 (codes "a.v"))
+greatest_lag = refl
+
+least_lag : words_of (codes "sim" ∷ codes "lag=0" ∷ codes "a.v" ∷ []) ≡ allowed (job 0 (codes "a.v"))
+least_lag = refl
+
+too_great_a_lag : words_of (codes "sim" ∷ codes "lag=16385" ∷ codes "a.v" ∷ []) ≡ bad
+too_great_a_lag = refl
+
+leading_zero : words_of (codes "sim" ∷ codes "lag=04" ∷ codes "a.v" ∷ []) ≡ bad
+leading_zero = refl
+
+lag_without_number : words_of (codes "sim" ∷ codes "lag=" ∷ codes "a.v" ∷ []) ≡ bad
+lag_without_number = refl
 
 sim_alone : words_of (codes "sim" ∷ []) ≡ bad
 sim_alone = refl
 
 setting_is_no_file : words_of (codes "sim" ∷ codes "lag=4" ∷ []) ≡ bad
 setting_is_no_file = refl
+
+setting_behind_the_file : words_of (codes "sim" ∷ codes "a.v" ∷ codes "lag=4" ∷ []) ≡ bad
+setting_behind_the_file = refl
 
 other_command : words_of (codes "run" ∷ codes "a.v" ∷ []) ≡ bad
 other_command = refl
@@ -31,8 +54,8 @@ no_words = refl
 empty_file_word : words_of (codes "sim" ∷ [] ∷ []) ≡ bad
 empty_file_word = refl
 
-third_word : words_of (codes "sim" ∷ codes "a.v" ∷ codes "b.v" ∷ []) ≡ bad
-third_word = refl
+two_files : words_of (codes "sim" ∷ codes "a.v" ∷ codes "b.v" ∷ []) ≡ bad
+two_files = refl
 
 -- ---- the text of a design
 
@@ -98,14 +121,20 @@ long_file = refl
 abbrev stopping : Module
 stopping = record { name = codes "m"; ports = input (codes "c") ∷ []; clock = codes "c"; body = more_stmt (stop 2) no_stmt }
 
--- the window begins 64 cycles before the failure, and at 0 at the least
-window_of_64 : report_of (codes "a.v") stopping (replicate 66 []) (Some 64) ≡ codes "failure at cycle 64\nstop in m at a.v:2\nwindow 0 to 64\n"
+-- the window begins so many cycles before the failure as the lag says, and at 0 at the least
+window_of_64 : report_of (job 64 (codes "a.v")) stopping (replicate 66 []) (Some 64) ≡ codes "failure at cycle 64\nstop in m at a.v:2\nwindow 0 to 64\n"
 unfolding digits
 window_of_64 = refl
 
-window_of_65 : report_of (codes "a.v") stopping (replicate 66 []) (Some 65) ≡ codes "failure at cycle 65\nstop in m at a.v:2\nwindow 1 to 65\n"
+window_of_65 : report_of (job 64 (codes "a.v")) stopping (replicate 66 []) (Some 65) ≡ codes "failure at cycle 65\nstop in m at a.v:2\nwindow 1 to 65\n"
 unfolding digits
 window_of_65 = refl
+
+-- a design without data inputs and registers shows its clock alone
+clock_alone : output_of 1 stopping (replicate 4 []) (Some 3)
+    ≡ codes "$version dessert 1 $end\n$timescale 1 ns $end\n$scope module m $end\n$var wire 1 ! c $end\n$upscope $end\n$enddefinitions $end\n#4\n$dumpvars\n0!\n$end\n#5\n1!\n#6\n0!\n#7\n1!\n"
+unfolding digits code
+clock_alone = refl
 
 -- ---- a whole run
 
@@ -122,14 +151,18 @@ enabled_fit (suc n) (suc t) h = enabled_fit n t (omega (arith, h))
 abbrev twenty_rows : List ℕ
 twenty_rows = codes "stimulus 1\ninputs rst en\n0 1\n0 1\n0 1\n0 1\n0 1\n0 1\n0 1\n0 1\n0 1\n0 1\n0 1\n0 1\n0 1\n0 1\n0 1\n0 1\n0 1\n0 1\n0 1\n0 1\n"
 
-twenty_rows_fail : Judges (codes "examples/cnt.v") counter twenty_rows (done true (codes "failure at cycle 9\nstop in cnt at examples/cnt.v:9\nr hit 9\nwindow 0 to 9\n"))
-unfolding digits
-twenty_rows_fail = (enabled 20, record { text = refl; few = omega arith; fit = enabled_fit 20 }, refl, refl)
+-- its waveform under a lag of 4
+abbrev five_cycles : List ℕ
+five_cycles = codes "$version dessert 1 $end\n$timescale 1 ns $end\n$scope module cnt $end\n$var wire 1 ! clk $end\n$var wire 1 \" rst $end\n$var wire 1 # en $end\n$var reg 4 $ r $end\n$upscope $end\n$enddefinitions $end\n#10\n$dumpvars\n0!\n0\"\n1#\nb0101 $\n$end\n#11\n1!\n#12\n0!\nb0110 $\n#13\n1!\n#14\n0!\nb0111 $\n#15\n1!\n#16\n0!\nb1000 $\n#17\n1!\n#18\n0!\nb1001 $\n#19\n1!\n"
+
+twenty_rows_fail : Judges (job 4 (codes "examples/cnt.v")) counter twenty_rows (done true five_cycles (codes "failure at cycle 9\nstop in cnt at examples/cnt.v:9\nr hit 9\nwindow 5 to 9\n"))
+unfolding digits code
+twenty_rows_fail = (enabled 20, record { text = refl; few = omega arith; fit = enabled_fit 20 }, refl, refl, refl)
 
 -- nine rows don't come so far
 abbrev nine_rows : List ℕ
 nine_rows = codes "stimulus 1\ninputs rst en\n0 1\n0 1\n0 1\n0 1\n0 1\n0 1\n0 1\n0 1\n0 1\n"
 
-nine_rows_are_quiet : Judges (codes "examples/cnt.v") counter nine_rows (done false (codes "no failure in 9 cycles\n"))
+nine_rows_are_quiet : Judges (job 64 (codes "examples/cnt.v")) counter nine_rows (done false [] (codes "no failure in 9 cycles\n"))
 unfolding digits
-nine_rows_are_quiet = (enabled 9, record { text = refl; few = omega arith; fit = enabled_fit 9 }, refl, refl)
+nine_rows_are_quiet = (enabled 9, record { text = refl; few = omega arith; fit = enabled_fit 9 }, refl, refl, refl)

@@ -1,7 +1,12 @@
 pub mod Cases
 pub mod CompleteLaw
 pub mod RanLaws
+pub mod KeptLaws
 pub mod RowsLaws
+pub mod StateLaws
+pub mod ReplayLaws
+pub mod FailLaws
 pub mod SettledLaw
 pub mod TopLaws
+pub mod WordsLaws
 mod Examples

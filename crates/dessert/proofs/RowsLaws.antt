@@ -1,11 +1,11 @@
 -- Running over the rows of a source: what a call of the reader adds.
-use Rattle.std.proofs.Common.{◌≡◌, ℕ, ◌+◌, ◌-◌, ◌<◌, ◌≤◌, List, [], ◌∷◌, ◌++◌, length, sym, ap, subst, ◌∙◌, arith, length-append, true, false}
-use Rattle.std.specs.Prelude.{Option, Result, Ok, Err, Bool}
+use Rattle.std.proofs.Common.{◌≡◌, ℕ, zero, suc, ◌-◌, ◌<◌, ◌≤◌, List, [], ◌∷◌, ◌++◌, length, subst, arith, length-append, true, false}
+use Rattle.std.specs.Prelude.{Option, Result, Ok, Err, Bool, replicate, slice_index}
 use Rattle.std.specs.Io.KnownBytes.{Consumes}
 use Rattle.std.proofs.KnownBytes.{Consumes-trans}
-use Rattle.dt_core.specs.Causes.{Rose}
 use Rattle.dt_core.proofs.WritesLaws.{rose_later}
 use Rattle.flat_ir.specs.FlatRun.{Flat}
+use Rattle.flat_ir.specs.Names.{Fit}
 use Rattle.stim.specs.Reader.{Reader}
 use Rattle.stim.specs.Reads.{Reads, Answers}
 use Rattle.stim.specs.declared.reader.StimFault.{StimFault}
@@ -13,8 +13,16 @@ use Rattle.stim.specs.declared.reader.StimFault.TheVariants as s
 use Rattle.dessert.specs.Progress.{Progress}
 use Rattle.dessert.specs.Ran.{RanTo}
 use Rattle.dessert.specs.Rows.{RanAll}
-use Rattle.dessert.specs.declared.rows.RowsFault.{RowsFault}
+use Rattle.dessert.proofs.RanLaws.{within_rows}
 use Rattle.dessert.specs.declared.rows.RowsFault.TheVariants as f
+
+-- values of one bit are small
+small : (n : ℕ) (row : List ℕ) → Fit (replicate n 1) row → (k : ℕ) → k < length row → slice_index row k < 256
+small zero [] f k h = absurd (omega (arith, h))
+small zero (x ∷ row) f k h = absurd f
+small (suc n) [] f k h = absurd f
+small (suc n) (x ∷ row) f zero h = omega (arith, f.0)
+small (suc n) (x ∷ row) f (suc k) h = small n row f.1 k (omega (arith, h))
 
 -- so many rows were taken from the source and run
 pub record Far (flat : Flat) (names : List (List ℕ)) (start left : Option (List ℕ)) (reader : Reader) (run : Progress) : Type 0 where
@@ -53,6 +61,16 @@ module _ (flat : Flat) (names : List (List ℕ)) (start left left' : Option (Lis
   -- there is room for one row more
   pub room : Came (Ok true) → run.cycles < 1048576
   room a = let l = length-append far.rows (reader'.row ∷ []) in omega (arith, far.ran.count, a.2.0.few, l)
+
+  -- of the rows, and of those that are kept, and of cycles
+  pub rooms : Came (Ok true) → (run.cycles < 4294967295) × (run.cycle < 4294967295) × (run.window.end < 4294967295)
+  rooms a =
+      let w = within_rows flat far.rows run.cycle run.window run.failure far.ran.ran.kept in
+      (omega (arith, room a), omega (arith, room a, w.0, far.ran.count), omega (arith, room a, w.1, far.ran.count))
+
+  -- each value is a bit
+  pub bits : Came (Ok true) → (k : ℕ) → k < length reader'.row → slice_index reader'.row k < 256
+  bits a k h = small (length names) reader'.row a.2.1 k h
 
   -- fewer rows may follow
   pub smaller : Came (Ok true) → (run' : Progress) → ((rs : List (List ℕ)) → RanTo flat rs run → RanTo flat (rs ++ reader'.row ∷ []) run') → 1048577 - run'.cycles < 1048577 - run.cycles

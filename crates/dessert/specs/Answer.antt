@@ -1,10 +1,10 @@
 -- What a top call answers to words, files and bytes, and the cause of each answer. This project's own.
 -- The layers below stand here as one parameter: the words, the accepted designs, and what comes of a design and its input.
-use Rattle.std.specs.Prelude.{◌≡◌, ℕ, ◌≤◌, Bool, true, false, IsTrue, List, [], ◌∷◌, ◌++◌, length, Option, Some, None, ◌⊎◌}
+use Rattle.std.specs.Prelude.{◌≡◌, ℕ, ◌≤◌, Bool, true, false, IsTrue, List, [], ◌∷◌, ◌++◌, length, take, Option, Some, ◌⊎◌}
 use Rattle.std.specs.Io.KnownBytes.{Appends, Consumes, IsAtEnd, Keeps}
 use Rattle.dt_core.specs.Causes.{Rose, AppendsPart}
 use Rattle.dt_io.specs.Files.{IsLong}
-use Rattle.dessert.specs.Report.{usage_text, file_failed_text, file_long_text, read_failed_text}
+use Rattle.dessert.specs.Report.{usage_text, file_failed_text, file_long_text, read_failed_text, write_failed_text}
 
 -- ---- statuses
 
@@ -17,6 +17,7 @@ pub data Status : Type 0 where
   input : Status
   file : Status
   reading : Status
+  writing : Status
   reporting : Status
   memory : Status
 
@@ -29,6 +30,7 @@ number design = 3
 number input = 4
 number file = 5
 number reading = 6
+number writing = 7
 number reporting = 8
 number memory = 9
 
@@ -39,10 +41,10 @@ pub data Words (Job : Type 0) : Type 0 where
   allowed : Job → Words Job
   bad : Words Job
 
--- what comes of an input: the job is done, and whether an assertion fired, with the report;
+-- what comes of an input: the job is done, and whether an assertion fired, with the texts of `out` and `report`;
 -- or the input is refused, and whether only for being cut short, with the report
 pub data Judged : Type 0 where
-  done : Bool → List ℕ → Judged
+  done : Bool → List ℕ → List ℕ → Judged
   refused : Bool → List ℕ → Judged
 
 -- the words and the file names of a job, its accepted designs and its refusals over the files' contents,
@@ -64,12 +66,13 @@ pub record Outside : Type 0 where
   pub left : Option (List ℕ)
   pub reads : ℕ
   pub out : Option (List ℕ)
+  pub writes : ℕ
   pub report : Option (List ℕ)
   pub reports : ℕ
   pub loads : ℕ
 
-abbrev pub moment : Option (List ℕ) → ℕ → Option (List ℕ) → Option (List ℕ) → ℕ → ℕ → Outside
-moment l r o h p n = record { left = l; reads = r; out = o; report = h; reports = p; loads = n }
+abbrev pub moment : Option (List ℕ) → ℕ → Option (List ℕ) → ℕ → Option (List ℕ) → ℕ → ℕ → Outside
+moment l r o w h p n = record { left = l; reads = r; out = o; writes = w; report = h; reports = p; loads = n }
 
 -- the files of these names hold these contents, where that is told, and each is within the limit
 abbrev pub Loaded : (List ℕ → Option (List ℕ)) → Bool → List (List ℕ) → List (List ℕ) → Type 0
@@ -92,14 +95,14 @@ module _ (L : Layers) (content : List ℕ → Option (List ℕ)) (told : Bool) (
     pub accepted : L.IsDesign job files d
 
   -- status 0 or 1: the job is done on its whole input
-  pub record Done (fired : Bool) (report : List ℕ) : Type 0 where
+  pub record Done (fired : Bool) (out report : List ℕ) : Type 0 where
     pub job : L.Job
     pub the_design : L.Design
     pub bytes : List ℕ
     pub ready : Ready job the_design
     pub taken : Consumes old.left new.left bytes
     pub at_end : IsAtEnd new.left
-    pub judged : L.Judges job the_design bytes (done fired report)
+    pub judged : L.Judges job the_design bytes (done fired out report)
 
   -- status 2: the words have no allowed form
   pub record BadWords (report : List ℕ) : Type 0 where
@@ -157,26 +160,37 @@ module _ (L : Layers) (content : List ℕ → Option (List ℕ)) (told : Bool) (
     pub may_go_on : L.MayGoOn job the_design bytes
     pub report_is : report ≡ read_failed_text
 
-  -- what is due to `report` under a status, with its cause
-  abbrev pub Due : Status → List ℕ → Type 0
-  Due quiet report = Done false report
-  Due failure report = Done true report
-  Due usage report = BadWords report
-  Due design report = BadDesign report
-  Due input report = BadInput report
-  Due file report = BadFile report
-  Due reading report = BadRead report
-  Due reporting report = ⊥
-  Due memory report = ⊥
+  -- status 7: the job is done, and `out` failed behind a front of its text
+  pub record BadWrite (out report : List ℕ) : Type 0 where
+    pub fired : Bool
+    pub whole : List ℕ
+    pub was : List ℕ
+    pub count : ℕ
+    pub did : Done fired whole was
+    pub rose : Rose old.writes new.writes
+    pub front : out ≡ take count whole
+    pub report_is : report ≡ write_failed_text
 
-  -- the answer: what is due, whole; status 8: a front of it, and the report's count rose; status 9: a front of it or nothing,
-  -- behind allowed words
-  abbrev pub Reports : Status → Type 0
-  Reports reporting = Rose old.reports new.reports × (was : Status) × (report : List ℕ) × Due was report × AppendsPart old.report new.report report
-  Reports memory =
-      IsAllowed × (Keeps old.report new.report ⊎ ((was : Status) × (report : List ℕ) × Due was report × AppendsPart old.report new.report report))
-  Reports status = (report : List ℕ) × Due status report × Appends old.report new.report report
+  -- what is due to `out` and to `report` under a status, with its cause
+  abbrev pub Due : Status → List ℕ → List ℕ → Type 0
+  Due quiet out report = Done false out report
+  Due failure out report = Done true out report
+  Due usage out report = (out ≡ []) × BadWords report
+  Due design out report = (out ≡ []) × BadDesign report
+  Due input out report = (out ≡ []) × BadInput report
+  Due file out report = (out ≡ []) × BadFile report
+  Due reading out report = (out ≡ []) × BadRead report
+  Due writing out report = BadWrite out report
+  Due reporting out report = ⊥
+  Due memory out report = ⊥
 
-  -- nothing is written to `out`
+  -- the answer: what is due, whole; status 8: `out` whole and a front of the report, whose count rose; status 9: fronts of both or
+  -- nothing, behind allowed words
   abbrev pub Answers : Status → Type 0
-  Answers status = Keeps old.out new.out × Reports status
+  Answers reporting =
+      Rose old.reports new.reports × (was : Status) × (out : List ℕ) × (report : List ℕ) × Due was out report
+      × Appends old.out new.out out × AppendsPart old.report new.report report
+  Answers memory =
+      IsAllowed × ((Keeps old.out new.out × Keeps old.report new.report)
+      ⊎ ((was : Status) × (out : List ℕ) × (report : List ℕ) × Due was out report × AppendsPart old.out new.out out × AppendsPart old.report new.report report))
+  Answers status = (out : List ℕ) × (report : List ℕ) × Due status out report × Appends old.out new.out out × Appends old.report new.report report

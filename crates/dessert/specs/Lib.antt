@@ -1,10 +1,13 @@
 pub mod Report
 pub mod Answer
+pub mod Words
 pub mod Outcome
 pub mod Writing
 pub mod Ended
 pub mod Progress
+pub mod Kept
 pub mod Ran
 pub mod Rows
+pub mod Again
 pub mod Complete
 pub mod Settles

@@ -1,8 +1,9 @@
 -- How far a run over rows has come. This project's own.
-use Rattle.std.specs.Prelude.{◌≡◌, ◌≢◌, ℕ, ◌<◌, List, [], length, slice_index_or, Option, Some, None}
+use Rattle.std.specs.Prelude.{◌≡◌, ◌≢◌, ℕ, suc, ◌<◌, ◌≤◌, List, [], ◌++◌, length, slice_index_or, Option, Some, None}
 use Rattle.flat_ir.specs.Fired.{Fired}
 use Rattle.flat_ir.specs.FlatRun.{Flat, flat_state, flat_next, flat_fired}
-use Rattle.dessert.specs.Progress.{Failure, Progress}
+use Rattle.dessert.specs.Kept.{Holds}
+use Rattle.dessert.specs.Progress.{Failure, Window, Progress}
 
 -- the assertions that fire in a cycle of the rows
 abbrev pub fired_at : Flat → List (List ℕ) → ℕ → List Fired
@@ -14,13 +15,25 @@ Found f rows state None = (state ≡ flat_state f rows (length rows)) × ((t : �
 Found f rows state (Some x) =
     (x.cycle < length rows) × (x.fired ≡ fired_at f rows x.cycle) × (fired_at f rows x.cycle ≢ []) × ((t : ℕ) → t < x.cycle → fired_at f rows t ≡ [])
 
+-- the last of the rows up to the first failure are kept, or of all rows where there was none
+abbrev pub KeepsLast : Flat → List (List ℕ) → ℕ → Window → Option Failure → Type 0
+KeepsLast f rows cycle w None = (cycle ≡ length rows) × Holds f rows w
+KeepsLast f rows cycle w (Some x) =
+    (cycle ≤ length rows) × (seen : List (List ℕ)) × (behind : List (List ℕ)) × (rows ≡ seen ++ behind) × (length seen ≡ suc x.cycle) × Holds f seen w
+
+-- the design has run over these rows, and the last ones are kept
+pub record HasRun (f : Flat) (rows : List (List ℕ)) (p : Progress) : Type 0 where
+  pub flat : p.flat ≡ f
+  pub found : Found f rows p.state p.failure
+  pub kept : KeepsLast f rows p.cycle p.window p.failure
+  pub some : 1 ≤ p.window.period
+
 -- the run has come behind these rows of the design
 pub record RanTo (f : Flat) (rows : List (List ℕ)) (p : Progress) : Type 0 where
-  pub flat : p.flat ≡ f
+  pub ran : HasRun f rows p
   pub count : p.cycles ≡ length rows
-  pub found : Found f rows p.state p.failure
 
 -- what a cycle does: nothing fires, and the state goes on; or this is the failure
-abbrev pub Steps : Flat → List ℕ → List ℕ → List ℕ → ℕ → Option Failure → Type 0
-Steps f row state after cycle None = (after ≡ flat_next f row state) × (flat_fired f row state ≡ [])
-Steps f row state after cycle (Some x) = (x.cycle ≡ cycle) × (x.fired ≡ flat_fired f row state) × (flat_fired f row state ≢ [])
+abbrev pub Steps : Flat → List ℕ → List ℕ → List ℕ → ℕ → ℕ → Option Failure → Type 0
+Steps f row state after cycle cycle' None = (after ≡ flat_next f row state) × (cycle' ≡ suc cycle) × (flat_fired f row state ≡ [])
+Steps f row state after cycle cycle' (Some x) = (cycle' ≡ cycle) × (x.cycle ≡ cycle) × (x.fired ≡ flat_fired f row state) × (flat_fired f row state ≢ [])

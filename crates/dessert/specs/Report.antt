@@ -1,6 +1,6 @@
 -- The report's texts, one for each case, as bytes. This project's own. Every line ends with LF; parts nest to the right.
 use Rattle.flat_ir.specs.Fired.{Fired}
-use Rattle.std.specs.Prelude.{ℕ, ◌==◌, Bool, if◌then◌else◌, List, [], ◌∷◌, ◌++◌, length, codes, decimal, slice_index}
+use Rattle.std.specs.Prelude.{ℕ, ◌==◌, if◌then◌else◌, List, [], ◌∷◌, ◌++◌, length, codes, decimal, slice_index}
 
 -- ---- a failure
 
@@ -61,3 +61,6 @@ file_long_text name = codes "file " ++ (name ++ codes ": too long\n")
 
 abbrev pub read_failed_text : List ℕ
 read_failed_text = codes "input: read failed\n"
+
+abbrev pub write_failed_text : List ℕ
+write_failed_text = codes "output: write failed\n"

@@ -1,28 +1,35 @@
 -- What is written of a run over all rows, or of a stimulus that was refused or broke off. This project's own.
-use Rattle.std.specs.Prelude.{◌≡◌, ℕ, ◌-◌, List, map, Option, Some, None}
+use Rattle.std.specs.Prelude.{◌≡◌, ℕ, suc, List, [], map, Option, Some, None}
 use Rattle.std.specs.Io.KnownBytes.{Keeps}
 use Rattle.stim.specs.declared.reader.StimFault.{StimFault}
 use Rattle.stim.specs.declared.reader.StimFault.TheVariants as s
+use Rattle.flat_ir.specs.FlatRun.{Flat}
 use Rattle.dessert.specs.Report.{stop_of, failure_text, quiet_text, stimulus_refused_text, read_failed_text}
 use Rattle.dessert.specs.Answer.{Status, quiet, failure, input, reading, memory}
 use Rattle.dessert.specs.Progress.{Failure, Progress}
-use Rattle.dessert.specs.Outcome.{lag}
-use Rattle.dessert.specs.Writing.{Wrote, Reported}
+use Rattle.dessert.specs.Words.{Job}
+use Rattle.dessert.specs.Outcome.{window_start}
+use Rattle.dessert.specs.Again.{wave_until}
+use Rattle.dessert.specs.Writing.{Sinks, Wrote, Delivered}
 use Rattle.dessert.specs.declared.rows.RowsFault.{RowsFault}
 use Rattle.dessert.specs.declared.rows.RowsFault.TheVariants as f
 
--- the status and the report of a first failure, or of none in so many cycles
+-- the status, the output and the report of a first failure, or of none in so many cycles
 abbrev pub ended_by : Option Failure → Status
 ended_by (Some x) = failure
 ended_by None = quiet
 
-abbrev pub text_by : List ℕ → List ℕ → ℕ → Option Failure → List ℕ
-text_by file path cycles (Some x) = failure_text x.cycle (map (stop_of path file) x.fired) (x.cycle - lag)
-text_by file path cycles None = quiet_text cycles
+abbrev pub out_by : ℕ → Flat → List (List ℕ) → Option Failure → List ℕ
+out_by lag f rows (Some x) = wave_until f rows (window_start lag x.cycle) (suc x.cycle)
+out_by lag f rows None = []
 
--- that report was written whole, in part, or not at all
-abbrev pub Settles : List ℕ → List ℕ → Progress → Status → Option (List ℕ) → Option (List ℕ) → ℕ → ℕ → Type 0
-Settles file path p result held0 held1 faults0 faults1 = Reported (text_by file path p.cycles p.failure) (ended_by p.failure) result held0 held1 faults0 faults1
+abbrev pub text_by : Job → List ℕ → ℕ → Option Failure → List ℕ
+text_by j path cycles (Some x) = failure_text x.cycle (map (stop_of path j.file) x.fired) (window_start j.lag x.cycle)
+text_by j path cycles None = quiet_text cycles
+
+-- they were written
+abbrev pub Settles : Job → Flat → List (List ℕ) → Progress → Status → Sinks → Sinks → Type 0
+Settles j f rows p result old new = Delivered (out_by j.lag f rows p.failure) (text_by j f.name p.cycles p.failure) (ended_by p.failure) result old new
 
 -- the status and the report of a stimulus that was refused, or whose source failed
 abbrev pub refusal_status : StimFault → Status

@@ -14,6 +14,7 @@ pub enum Ended {
     Input,
     File,
     Reading,
+    Writing,
     Reporting,
     Memory,
 }
@@ -31,6 +32,7 @@ impl Ended {
             Ended::Input => 4,
             Ended::File => 5,
             Ended::Reading => 6,
+            Ended::Writing => 7,
             Ended::Reporting => 8,
             Ended::Memory => 9,
         }

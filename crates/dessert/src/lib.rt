@@ -1,19 +1,22 @@
-//! The top call: words, a file and a stimulus in, a status and a report out.
+//! The top call: words, a file and a stimulus in, a status, a waveform and a report out.
 //!
-//! Below: `vl_front` (text to design), `stim` (stimulus to rows), `plain_sim` (a design's cycles), `dt_io` (the outside). Above:
-//! `dessert_cli`, the program. `top` is the way through; `words`, `run`, `rows` and `texts` are its steps.
+//! Below: `vl_front` (text to design), `stim` (stimulus to rows), `plain_sim` (a design's cycles), `vcd_text` (the waveform), `dt_io` (the
+//! outside). Above: `dessert_cli`, the program. `top` is the way through; `words`, `run`, `rows`, `replay` and `texts` are its steps, and
+//! `window` is what a run keeps for the replay.
 //! Promise: `quiet_main` answers what `specs/Answer` says over `specs/Outcome`: each status with its cause, and where all is well
-//! outside, 0 or 1 with the report of the design's own run (`Run` of `vl_meaning`), or 9.
+//! outside, 0 or 1 with the waveform and the report of the design's own run (`Run` and `Shown` of `vl_meaning`), or 9.
 //! Not said: that memory is enough; what real files and streams hold.
 #![tactic(auto)]
 
 mod ended;
+mod replay;
 mod rows;
 mod run;
 #[cfg(test)]
 mod tests;
 mod texts;
 mod top;
+mod window;
 mod words;
 mod write;
 

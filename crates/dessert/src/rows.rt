@@ -9,7 +9,9 @@ ghost use Rattle.dessert.specs.Rows.{RanAll};
 use crate::run::Run;
 use dt_core::fault::NoMemory;
 use dt_io::outside::Source;
+use plain_sim::steps::Steps;
 use std::alloc::Global;
+use std::sync::ledger::Ledger;
 use stim::reader::{StimFault, StimReader};
 
 /// Why a run didn't come to the end of its rows.
@@ -20,22 +22,25 @@ pub enum RowsFault {
 }
 
 /// Runs over every row of the source, also behind a failure.
-pub fn run_rows<S: Source>(
+pub fn run_rows<S: Source, L: Ledger>(
     alloc: Global,
     reader: &mut StimReader,
     run: &mut Run<'_>,
     source: &mut S,
+    steps: &mut Steps<L>,
 ) -> Result<(), RowsFault>
     requires live { IsTrue reader.old.live }
     requires reads { Reads (input_names run.old.flat.signals) reader.old [] [] }
     requires ran { RanTo run.old.flat [] run.old }
     requires inputs { run.old.flat.inputs ≡ length (input_names run.old.flat.signals) }
-    ensures { RanAll run.old.flat (input_names run.old.flat.signals) (S.left source.old) (S.left source.new) (S.faults source.old) (S.faults source.new) run.new result }
+    ensures ran { RanAll run.old.flat (input_names run.old.flat.signals) (S.left source.old) (S.left source.new) (S.faults source.old) (S.faults source.new) run.new result }
+    ensures flat { run.new.flat ≡ run.old.flat }
+    ensures period { run.new.window.period ≡ run.old.window.period }
 {
     'rows: loop {
         match reader.next_row(source) {
             Ok(true) => {
-                let Ok(()) = run.take(alloc, reader.row()) else {
+                let Ok(()) = run.take(alloc, reader.row(), steps) else {
                     return Err(RowsFault::Memory);
                 };
             }

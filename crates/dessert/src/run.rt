@@ -1,20 +1,25 @@
-//! A run over rows as they come: it keeps its state and the first failure, and nothing else of a cycle.
+//! A run over rows as they come: it keeps its state, the first failure, and the last rows up to it.
 
-ghost use Rattle.std.specs.Prelude.{◌≡◌, ◌<◌, ◌^◌, ◌-◌, ◌++◌, ◌∷◌, [], ℕ, List, length, IfOk, OnOk, MatchOption, Some, None};
+ghost use Rattle.std.specs.Prelude.{◌≡◌, ◌<◌, ◌≤◌, ◌^◌, ◌-◌, ◌+◌, ◌++◌, ◌∷◌, [], ℕ, List, length, slice_index, IfOk, OnOk, MatchOption, Some, None};
 ghost use Rattle.flat_ir.specs.FlatRun as flat_run;
-ghost use Rattle.dessert.specs.Ran.{Found, RanTo, Steps};
+ghost use Rattle.dessert.specs.Ran.{HasRun, RanTo};
+ghost use Rattle.dessert.specs.Ran as ran;
 
+use crate::window::Window;
 use dt_core::fault::NoMemory;
 use flat_ir::flat::Flat;
+use flat_ir::order::Order;
 use plain_sim::fired::Fired;
 use plain_sim::sim::Sim;
+use plain_sim::steps::Steps;
 use std::alloc::Global;
 use std::marker::Model;
+use std::sync::ledger::Ledger;
 
 /// The first failure: its cycle, from 0, and the assertions that fired in it.
 #[derive(Drop)]
 pub struct Failure {
-    pub cycle: u32,
+    pub cycle: u64,
     pub fired: Vec<Fired>,
 }
 
@@ -32,6 +37,7 @@ pub struct Run<'a> {
     sim: Sim<'a>,
     cycles: u32,
     failure: Option<Failure>,
+    window: Window,
 }
 
 impl<'a> Model for Run<'a> {
@@ -39,32 +45,68 @@ impl<'a> Model for Run<'a> {
 
     ghost Value = { progress.Progress };
 
-    ghost view = { λ r. record { flat = r.sim.flat; state = r.sim.state; cycles = r.cycles; failure = r.failure } };
+    ghost view = { λ r. record { flat = r.sim.flat; cycle = r.sim.cycle; state = r.sim.state; cycles = r.cycles; failure = r.failure; window = r.window } };
 }
 
 impl<'a> Run<'a> {
-    /// The run over no row yet.
-    pub fn start(alloc: Global, flat: &'a Flat) -> Result<Run<'a>, NoMemory>
-        ensures { IfOk result (λ r. RanTo flat.now [] r) }
+    /// The run over no row yet. It will keep the rows that a window of this lag needs.
+    pub fn start(alloc: Global, flat: &'a Flat, lag: u32) -> Result<Run<'a>, NoMemory>
+        requires { lag < 2 ^ 32 - 1 }
+        ensures ran { IfOk result (λ r. RanTo flat.now [] r) }
+        ensures flat { IfOk result (λ r. r.flat ≡ flat.now) }
+        ensures period { IfOk result (λ r. lag < r.window.period) }
     {
-        let sim = Sim::start(alloc, flat)?;
+        let sim = Sim::start(alloc, flat, &Order::empty(alloc))?;
+        let window = Window::start(alloc, sim.registers(), lag)?;
         Ok(Run {
             sim,
             cycles: 0,
             failure: None,
+            window,
         })
     }
 
-    /// Goes on over one row more. Behind the first failure nothing is computed.
-    pub fn take(&mut self, alloc: Global, row: &[u128]) -> Result<(), NoMemory>
+    /// Goes on over one row more. Behind the first failure nothing is computed, and nothing more is kept.
+    pub fn take<L: Ledger>(
+        &mut self,
+        alloc: Global,
+        row: &[u128],
+        steps: &mut Steps<L>,
+    ) -> Result<(), NoMemory>
         requires row { length row.now ≡ self.old.flat.inputs }
-        requires room { self.old.cycles < 2 ^ 32 - 1 }
+        requires bytes { (k : ℕ) → k < length row.now → slice_index row.now k < 256 }
+        requires room { (self.old.cycles < 2 ^ 32 - 1) × (self.old.cycle < 2 ^ 32 - 1) × (self.old.window.end < 2 ^ 32 - 1) }
+        requires some { 1 ≤ self.old.window.period }
         ensures ran { OnOk result ((flat : flat_run.Flat) (rows : List (List ℕ)) → RanTo flat rows self.old → RanTo flat (rows ++ row.now ∷ []) self.new) }
         ensures flat { self.new.flat ≡ self.old.flat }
+        ensures period { self.new.window.period ≡ self.old.window.period }
     {
-        let found = self.failure.take();
-        self.failure = go_on(alloc, &mut self.sim, self.cycles, row, found)?;
+        self.run_row(alloc, row, steps)?;
         self.cycles += 1;
+        Ok(())
+    }
+
+    // Runs one cycle, unless the first failure was found.
+    fn run_row<L: Ledger>(
+        &mut self,
+        alloc: Global,
+        row: &[u128],
+        steps: &mut Steps<L>,
+    ) -> Result<(), NoMemory>
+        requires row { length row.now ≡ self.old.flat.inputs }
+        requires bytes { (k : ℕ) → k < length row.now → slice_index row.now k < 256 }
+        requires room { (self.old.cycle < 2 ^ 32 - 1) × (self.old.window.end < 2 ^ 32 - 1) }
+        requires some { 1 ≤ self.old.window.period }
+        ensures ran { OnOk result ((flat : flat_run.Flat) (rows : List (List ℕ)) → HasRun flat rows self.old → HasRun flat (rows ++ row.now ∷ []) self.new) }
+        ensures flat { self.new.flat ≡ self.old.flat }
+        ensures period { self.new.window.period ≡ self.old.window.period }
+        ensures cycles { self.new.cycles ≡ self.old.cycles }
+    {
+        if self.failure.is_some() {
+            return Ok(());
+        }
+        self.window.keep(alloc, self.sim.registers(), row)?;
+        self.failure = step(alloc, &mut self.sim, row, steps)?;
         Ok(())
     }
 
@@ -75,51 +117,47 @@ impl<'a> Run<'a> {
         self.cycles
     }
 
+    /// The design.
+    pub fn flat(&self) -> &'a Flat
+        ensures { result.now ≡ self.now.flat }
+    {
+        self.sim.flat()
+    }
+
     /// The first failure, if there was one.
     pub fn failure(&self) -> Option<&Failure>
         ensures { MatchOption result (self.now.failure ≡ None) (λ f. self.now.failure ≡ Some f.now) }
     {
         self.failure.as_ref()
     }
-}
 
-// Runs one cycle, unless the first failure was found.
-fn go_on(
-    alloc: Global,
-    sim: &mut Sim<'_>,
-    cycle: u32,
-    row: &[u128],
-    found: Option<Failure>,
-) -> Result<Option<Failure>, NoMemory>
-    requires { length row.now ≡ sim.old.flat.inputs }
-    ensures found { IfOk result (λ next. (rows : List (List ℕ)) → cycle ≡ length rows → Found sim.old.flat rows sim.old.state found
-        → Found sim.old.flat (rows ++ row.now ∷ []) sim.new.state next) }
-    ensures flat { sim.new.flat ≡ sim.old.flat }
-{
-    match found {
-        Some(failure) => Ok(Some(failure)),
-        None => {
-            let next = step(alloc, sim, cycle, row)?;
-            Ok(next)
-        }
+    /// The last rows up to the first failure.
+    pub fn window(&self) -> &Window
+        ensures { result.now ≡ self.now.window }
+    {
+        &self.window
     }
 }
 
 // Runs one cycle: to the next state where nothing fires, else to the failure.
-fn step(
+fn step<L: Ledger>(
     alloc: Global,
     sim: &mut Sim<'_>,
-    cycle: u32,
     row: &[u128],
+    steps: &mut Steps<L>,
 ) -> Result<Option<Failure>, NoMemory>
-    requires { length row.now ≡ sim.old.flat.inputs }
-    ensures steps { IfOk result (λ found. Steps sim.old.flat row.now sim.old.state sim.new.state cycle found) }
+    requires row { length row.now ≡ sim.old.flat.inputs }
+    requires room { sim.old.cycle < 2 ^ 32 - 1 }
+    ensures steps { IfOk result (λ found. ran.Steps sim.old.flat row.now sim.old.state sim.new.state sim.old.cycle sim.new.cycle found) }
     ensures flat { sim.new.flat ≡ sim.old.flat }
 {
-    sim.settle(row);
+    sim.settle(row, steps);
     if sim.fires() {
         let fired = sim.fired(alloc)?;
-        return Ok(Some(Failure { cycle, fired }));
+        return Ok(Some(Failure {
+            cycle: sim.cycle(),
+            fired,
+        }));
     }
     sim.advance();
     Ok(None)

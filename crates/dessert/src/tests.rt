@@ -1,11 +1,17 @@
 //! The top call over objects in memory.
 
-ghost use Rattle.std.specs.Prelude.{◌≤◌};
+ghost use Rattle.std.specs.Prelude.{◌≡◌, ◌<◌, ◌≤◌};
+
+mod failed;
+mod windows;
 
 use crate::quiet_main;
 use dt_core::text::Text;
 use dt_io::memory::{MemFiles, MemSink, MemSource};
+use plain_sim::steps::Steps;
 use std::alloc::Global;
+use std::marker::Brand;
+use std::sync::ledger::{Blank, Ledger};
 use std::test::*;
 
 const COUNTER: &[u8] = b"module cnt(input clk, input rst, input en, output reg [3:0] r);
@@ -22,6 +28,9 @@ const COUNTER: &[u8] = b"module cnt(input clk, input rst, input en, output reg [
 endmodule
 ";
 
+// How long the waveform of the counter's cycles from 0 to 9 is.
+const WAVE_LENGTH: usize = 422;
+
 const HIT: &[u8] = b"failure at cycle 9\nstop in cnt at cnt.v:9\nr hit 9\nwindow 0 to 9\n";
 
 // One call: what it is given, and which calls to the outside fail, 0 for none.
@@ -32,15 +41,16 @@ struct Call<'a> {
     stimulus: &'a [u8],
     load: u32,
     read: u32,
-    write: u32,
+    out: u32,
+    report: u32,
 }
 
 // What came of it.
 #[derive(Drop)]
 struct Came {
     status: u8,
+    out: Vec<u8>,
     report: Vec<u8>,
-    out: usize,
 }
 
 fn bytes_of(alloc: Global, bytes: &[u8]) -> Result<Vec<u8>, Fail> {
@@ -67,15 +77,24 @@ fn one_file(alloc: Global, file: &[u8], load: u32) -> Result<MemFiles, Fail> {
     Ok(MemFiles::new(files, one(alloc, load)?))
 }
 
+// Asks the top call; its steps count on a ledger of their own.
 fn ask(alloc: Global, call: Call) -> Result<Came, Fail> {
+    ask_counted::<Brand>(alloc, call, Blank::new(1))
+}
+
+fn ask_counted<L: Ledger>(alloc: Global, call: Call, blank: Blank) -> Result<Came, Fail>
+    requires name { blank.name ≡ L.name }
+    requires parts { (blank.parts ≡ L.parts) × (0 < blank.parts) }
+{
     let mut files = one_file(alloc, call.file, call.load)?;
     let mut source = MemSource::new(bytes_of(alloc, call.stimulus)?, 16, one(alloc, call.read)?);
-    let Ok(mut out) = MemSink::new(alloc, 64, 16, Vec::new(alloc)) else {
+    let Ok(mut out) = MemSink::new(alloc, 16384, 16, one(alloc, call.out)?) else {
         return Err("no memory".into());
     };
-    let Ok(mut report) = MemSink::new(alloc, 512, 16, one(alloc, call.write)?) else {
+    let Ok(mut report) = MemSink::new(alloc, 512, 16, one(alloc, call.report)?) else {
         return Err("no memory".into());
     };
+    let mut steps = Steps::<L>::new(blank);
     let status = quiet_main(
         alloc,
         call.words,
@@ -83,11 +102,12 @@ fn ask(alloc: Global, call: Call) -> Result<Came, Fail> {
         &mut source,
         &mut out,
         &mut report,
+        &mut steps,
     );
     Ok(Came {
         status,
+        out: bytes_of(alloc, out.bytes())?,
         report: bytes_of(alloc, report.bytes())?,
-        out: out.bytes().len(),
     })
 }
 
@@ -107,24 +127,60 @@ fn counter_call<'a>(stimulus: &'a [u8]) -> Call<'a> {
         stimulus,
         load: 0,
         read: 0,
-        write: 0,
+        out: 0,
+        report: 0,
     }
 }
 
 #[test]
 fn the_counter_fails_first_in_cycle_nine(rt: HostRuntime) -> Result<(), Fail> {
-    let cases: [(u32, u8, &[u8]); 4] = [
-        (20, 1, HIT),
-        (10, 1, HIT),
-        (9, 0, b"no failure in 9 cycles\n"),
-        (0, 0, b"no failure in 0 cycles\n"),
+    let cases: [(u32, u8, usize, &[u8]); 4] = [
+        (20, 1, WAVE_LENGTH, HIT),
+        (10, 1, WAVE_LENGTH, HIT),
+        (9, 0, 0, b"no failure in 9 cycles\n"),
+        (0, 0, 0, b"no failure in 0 cycles\n"),
     ];
-    for (rows, status, report) in cases.iter() {
+    for (rows, status, length, report) in cases.iter() {
         let stimulus = counted(rt.alloc(), *rows)?;
         let came = ask(rt.alloc(), counter_call(&stimulus))?;
         assert_eq!(rt; came.status, *status, "{rows} rows");
         assert_eq!(rt; came.report.as_slice(), *report, "{rows} rows");
-        assert_eq!(rt; came.out, 0, "{rows} rows");
+        assert_eq!(rt; came.out.len(), *length, "{rows} rows");
+    }
+    Ok(())
+}
+
+#[test]
+fn words_have_one_form(rt: HostRuntime) -> Result<(), Fail> {
+    let whole = counted(rt.alloc(), 3)?;
+    let well = counter_call(&whole);
+    let cases: [(&[&str], u8); 16] = [
+        (&["sim", "cnt.v"], 0),
+        (&["sim", "lag=0", "cnt.v"], 0),
+        (&["sim", "lag=64", "cnt.v"], 0),
+        (&["sim", "lag=16384", "cnt.v"], 0),
+        (&["sim", "lag=16385", "cnt.v"], 2),
+        (&["sim", "lag=99999999999999999999", "cnt.v"], 2),
+        (&["sim", "lag=04", "cnt.v"], 2),
+        (&["sim", "lag=", "cnt.v"], 2),
+        (&["sim", "lag=+4", "cnt.v"], 2),
+        (&["sim", "lag=4x", "cnt.v"], 2),
+        (&["sim", "lags=4", "cnt.v"], 2),
+        (&["sim", "lag=4"], 2),
+        (&["sim", "lag=4", "lag=4", "cnt.v"], 2),
+        (&["sim", "cnt.v", "lag=4"], 2),
+        (&["sim", "cnt.v", "cnt.v"], 2),
+        (&["run", "cnt.v"], 2),
+    ];
+    for (words, status) in cases.iter() {
+        let came = ask(
+            rt.alloc(),
+            Call {
+                words: *words,
+                ..well
+            },
+        )?;
+        assert_eq!(rt; came.status, *status);
     }
     Ok(())
 }
@@ -135,17 +191,8 @@ fn each_refusal_has_its_status_and_line(rt: HostRuntime) -> Result<(), Fail> {
     let well = counter_call(&whole);
     let sim: &[&str] = &["sim"];
     let other: &[&str] = &["sim", "m.v"];
-    let option: &[&str] = &["sim", "lag=4"];
-    let cases: [(Call, u8, &[u8]); 12] = [
+    let cases: [(Call, u8, &[u8]); 9] = [
         (Call { words: sim, ..well }, 2, b"usage\n"),
-        (
-            Call {
-                words: option,
-                ..well
-            },
-            2,
-            b"usage\n",
-        ),
         (
             Call {
                 words: other,
@@ -189,14 +236,12 @@ fn each_refusal_has_its_status_and_line(rt: HostRuntime) -> Result<(), Fail> {
             4,
             b"stimulus: NotYetBuilt\n",
         ),
-        (Call { write: 1, ..well }, 8, b""),
-        (Call { write: 2, ..well }, 8, b"failure at cycle"),
     ];
     for (call, status, report) in cases.iter() {
         let came = ask(rt.alloc(), *call)?;
         assert_eq!(rt; came.status, *status);
         assert_eq!(rt; came.report.as_slice(), *report);
-        assert_eq!(rt; came.out, 0);
+        assert_eq!(rt; came.out.len(), 0);
     }
     Ok(())
 }
@@ -212,89 +257,6 @@ fn a_bad_row_behind_the_failure_is_refused(rt: HostRuntime) -> Result<(), Fail> 
         came.report.as_slice(),
         b"stimulus: NotYetBuilt\n".as_slice()
     );
-    Ok(())
-}
-
-// A clean run takes the 105 bytes in seven reads of 16, and learns of the end by an eighth.
-#[test]
-fn each_read_that_fails_is_told(rt: HostRuntime) -> Result<(), Fail> {
-    let whole = counted(rt.alloc(), 20)?;
-    let well = counter_call(&whole);
-    for read in 1..9u32 {
-        let came = ask(rt.alloc(), Call { read, ..well })?;
-        assert_eq!(rt; came.status, 6, "read {read}");
-        assert_eq!(rt;
-            came.report.as_slice(),
-            b"input: read failed\n".as_slice(),
-            "read {read}"
-        );
-        let both = ask(
-            rt.alloc(),
-            Call {
-                read,
-                write: 1,
-                ..well
-            },
-        )?;
-        assert_eq!(rt; both.status, 8, "read {read}");
-        assert_eq!(rt; both.report.len(), 0, "read {read}");
-    }
-    let came = ask(rt.alloc(), Call { read: 9, ..well })?;
-    assert_eq!(rt; came.status, 1);
-    Ok(())
-}
-
-// The report of 64 bytes goes out in four writes of 16; those before the one that fails stand.
-#[test]
-fn each_write_that_fails_leaves_a_front(rt: HostRuntime) -> Result<(), Fail> {
-    let whole = counted(rt.alloc(), 20)?;
-    let well = counter_call(&whole);
-    let fronts: [(u32, &[u8]); 4] = [
-        (1, b""),
-        (2, b"failure at cycle"),
-        (3, b"failure at cycle 9\nstop in cnt a"),
-        (4, b"failure at cycle 9\nstop in cnt at cnt.v:9\nr hit "),
-    ];
-    for (write, front) in fronts.iter() {
-        let came = ask(
-            rt.alloc(),
-            Call {
-                write: *write,
-                ..well
-            },
-        )?;
-        assert_eq!(rt; came.status, 8, "write {write}");
-        assert_eq!(rt; came.report.as_slice(), *front, "write {write}");
-    }
-    Ok(())
-}
-
-// What a stimulus of 20 rows gives when it ends behind so many bytes: its header has 25 bytes, a row four.
-fn status_of_front(bytes: u64) -> u8 {
-    let Some(behind) = bytes.checked_sub(25) else {
-        return 4;
-    };
-    if behind % 4 != 0 {
-        4
-    } else if behind < 40 {
-        0
-    } else {
-        1
-    }
-}
-
-#[test]
-fn a_stimulus_cut_behind_each_byte(rt: HostRuntime) -> Result<(), Fail> {
-    let whole = counted(rt.alloc(), 20)?;
-    let mut front = Vec::new(rt.alloc());
-    let mut bytes = 0u64;
-    for byte in whole.iter() {
-        let came = ask(rt.alloc(), counter_call(&front))?;
-        assert_eq!(rt; came.status, status_of_front(bytes), "{bytes} bytes");
-        front.push(*byte)?;
-        bytes = bytes.saturating_add(1);
-    }
-    assert_eq!(rt; bytes, 105);
     Ok(())
 }
 

@@ -16,6 +16,8 @@ pub const STIMULUS_REFUSED: &[u8] = b"stimulus: NotYetBuilt\n";
 
 pub const READ_FAILED: &[u8] = b"input: read failed\n";
 
+pub const WRITE_FAILED: &[u8] = b"output: write failed\n";
+
 // Appends a piece.
 fn push(text: &mut Vec<u8>, piece: &[u8]) -> Result<(), NoMemory>
     ensures { OnOk result (text.new.items ≡ text.old.items ++ piece.now) }
@@ -27,7 +29,7 @@ fn push(text: &mut Vec<u8>, piece: &[u8]) -> Result<(), NoMemory>
 }
 
 // Appends the digits of a number.
-fn push_number(text: &mut Vec<u8>, number: u32) -> Result<(), NoMemory>
+fn push_number(text: &mut Vec<u8>, number: u64) -> Result<(), NoMemory>
     ensures { OnOk result (text.new.items ≡ text.old.items ++ decimal number) }
 {
     push(text, Buffer::new().format(number).as_bytes())
@@ -52,7 +54,7 @@ fn push_place(text: &mut Vec<u8>, path: &[u8], file: &[u8], line: u32) -> Result
     push(text, b" at ")?;
     push(text, file)?;
     push(text, b":")?;
-    push_number(text, line)?;
+    push_number(text, u64::from(line))?;
     push(text, b"\n")
 }
 
@@ -80,9 +82,9 @@ pub fn failure(
     alloc: Global,
     path: &[u8],
     file: &[u8],
-    cycle: u32,
+    cycle: u64,
     fired: &[Fired],
-    first: u32,
+    first: u64,
 ) -> Result<Vec<u8>, NoMemory>
     ensures { IfOk result (λ text. text.items ≡ failure_text cycle (map (stop_of path.now file.now) fired.now) first) }
 {
@@ -105,7 +107,7 @@ pub fn quiet(alloc: Global, cycles: u32) -> Result<Vec<u8>, NoMemory>
 {
     let mut text = Vec::new(alloc);
     push(&mut text, b"no failure in ")?;
-    push_number(&mut text, cycles)?;
+    push_number(&mut text, u64::from(cycles))?;
     push(&mut text, b" cycles\n")?;
     Ok(text)
 }

@@ -1,104 +1,115 @@
 //! The top call.
 
-ghost use Rattle.std.specs.Prelude.{◌≡◌, ◌≤◌, ◌⊎◌, ◌∷◌, [], map, length, List, ℕ, Bool, IfOk};
+ghost use Rattle.std.specs.Prelude.{◌≡◌, ◌≤◌, ◌<◌, ◌⊎◌, ◌∷◌, [], map, length, List, ℕ, Bool, IfOk, Some};
 ghost use Rattle.std.specs.declared.option.Option.{Option};
 ghost use Rattle.flat_ir.specs.Names.{input_names};
 ghost use Rattle.vl_tree.specs.Tree.{Module};
 ghost use Rattle.vl_meaning.specs.StandsFor.{StandsFor};
 ghost use Rattle.dessert.specs.Answer.{Status, number, allowed, Answers, Loaded, moment};
-ghost use Rattle.dessert.specs.Outcome.{layers, words_of, OneDesign, design_text, ends_line};
+ghost use Rattle.dessert.specs.Words as asked;
+ghost use Rattle.dessert.specs.Outcome.{layers, OneDesign, design_text, ends_line};
 ghost use Rattle.dessert.specs.Complete.{AllWell};
+ghost use Rattle.dessert.specs.Ran.{RanTo};
+ghost use Rattle.dessert.specs.Report.{failure_text, stop_of};
 ghost use Rattle.dessert.specs.Settles.{Settles, GivesUp, refusal_text, refusal_status};
-ghost use Rattle.dessert.specs.Writing.{Wrote};
+ghost use Rattle.dessert.specs.Writing.{Wrote, sinks};
 ghost use Rattle.dessert.specs.Ended.{status_of};
 
 use crate::ended::Ended;
+use crate::replay::write_window;
 use crate::rows::{RowsFault, run_rows};
-use crate::run::Run;
+use crate::run::{Failure, Run};
 use crate::texts;
-use crate::words::read_words;
+use crate::words::{Job, read_words};
 use crate::write::{finish, finish_text};
 use dt_core::fault::NoMemory;
 use dt_core::limits::MAX_FILE;
 use dt_io::outside::{Files, LoadFault, Sink, Source};
 use flat_ir::flat::Flat;
+use plain_sim::steps::Steps;
 use std::alloc::Global;
+use std::sync::ledger::Ledger;
 use stim::reader::{StimFault, StimReader};
+use vcd_text::fault::VcdFault;
 use vl_front::{DesignFault, read_design};
 
-// How many cycles before a failure the window begins.
-const LAG: u32 = 64;
-
-/// Loads the file, reads its design, runs it over all rows of the stimulus, and writes what comes of it. Nothing is written to `out`.
-/// The status: 0 no failure, 1 a failure, 2 the words, 3 the design, 4 the stimulus, 5 the file, 6 reading, 8 writing the report, 9 want of
-/// memory.
-pub fn quiet_main<F: Files, S: Source, V: Sink, T: Sink>(
+/// Loads the file, reads its design, runs it over all rows of the stimulus, and writes what comes of it: the waveform of the window of
+/// a failure to `out`, and then the report. Each cycle that is settled counts one step.
+/// The status: 0 no failure, 1 a failure, 2 the words, 3 the design, 4 the stimulus, 5 the file, 6 reading, 7 writing to `out`, 8 writing
+/// the report, 9 want of memory.
+pub fn quiet_main<F: Files, S: Source, V: Sink, T: Sink, L: Ledger>(
     alloc: Global,
     words: &[&str],
     files: &mut F,
     stimulus: &mut S,
-    _out: &mut V,
+    out: &mut V,
     report: &mut T,
+    steps: &mut Steps<L>,
 ) -> u8
     ensures answers { (s : Status) × (result ≡ number s) × Answers layers (F.content files.old) (F.told files.old) (map (λ w. w.now) words.now)
-        (moment (S.left stimulus.old) (S.faults stimulus.old) (V.held _out.old) (T.held report.old) (T.faults report.old) (F.faults files.old))
-        (moment (S.left stimulus.new) (S.faults stimulus.new) (V.held _out.new) (T.held report.new) (T.faults report.new) (F.faults files.new)) s }
+        (moment (S.left stimulus.old) (S.faults stimulus.old) (V.held out.old) (V.faults out.old) (T.held report.old) (T.faults report.old) (F.faults files.old))
+        (moment (S.left stimulus.new) (S.faults stimulus.new) (V.held out.new) (V.faults out.new) (T.held report.new) (T.faults report.new) (F.faults files.new)) s }
     ensures complete { AllWell (F.content files.old) (F.told files.old) (map (λ w. w.now) words.now)
-        (moment (S.left stimulus.old) (S.faults stimulus.old) (V.held _out.old) (T.held report.old) (T.faults report.old) (F.faults files.old))
-        (moment (S.left stimulus.new) (S.faults stimulus.new) (V.held _out.new) (T.held report.new) (T.faults report.new) (F.faults files.new))
+        (moment (S.left stimulus.old) (S.faults stimulus.old) (V.held out.old) (V.faults out.old) (T.held report.old) (T.faults report.old) (F.faults files.old))
+        (moment (S.left stimulus.new) (S.faults stimulus.new) (V.held out.new) (V.faults out.new) (T.held report.new) (T.faults report.new) (F.faults files.new))
         → (result ≡ 0) ⊎ ((result ≡ 1) ⊎ (result ≡ 9)) }
 {
-    answer(alloc, words, files, stimulus, report).number()
+    answer(alloc, words, files, stimulus, out, report, steps).number()
 }
 
-// The same, with the answer by its name, whatever is known of `out`.
-fn answer<F: Files, S: Source, T: Sink>(
+// The same, with the answer by its name.
+fn answer<F: Files, S: Source, V: Sink, T: Sink, L: Ledger>(
     alloc: Global,
     words: &[&str],
     files: &mut F,
     stimulus: &mut S,
+    out: &mut V,
     report: &mut T,
+    steps: &mut Steps<L>,
 ) -> Ended
-    ensures { (out : Option (List ℕ)) → Answers layers (F.content files.old) (F.told files.old) (map (λ w. w.now) words.now)
-        (moment (S.left stimulus.old) (S.faults stimulus.old) out (T.held report.old) (T.faults report.old) (F.faults files.old))
-        (moment (S.left stimulus.new) (S.faults stimulus.new) out (T.held report.new) (T.faults report.new) (F.faults files.new)) (status_of result) }
+    ensures { Answers layers (F.content files.old) (F.told files.old) (map (λ w. w.now) words.now)
+        (moment (S.left stimulus.old) (S.faults stimulus.old) (V.held out.old) (V.faults out.old) (T.held report.old) (T.faults report.old) (F.faults files.old))
+        (moment (S.left stimulus.new) (S.faults stimulus.new) (V.held out.new) (V.faults out.new) (T.held report.new) (T.faults report.new) (F.faults files.new)) (status_of result) }
 {
-    let name = match read_words(words) {
-        Some(name) => name,
+    let job = match read_words(words) {
+        Some(job) => job,
         None => return finish(report, texts::USAGE, Ended::Usage),
     };
     let mut text = Vec::new(alloc);
-    match files.load(name, &mut text, MAX_FILE) {
-        Ok(()) => run_file(alloc, name, text, stimulus, report),
+    match files.load(job.file, &mut text, MAX_FILE) {
+        Ok(()) => run_file(alloc, job, text, stimulus, out, report, steps),
         Err(LoadFault::Failed) => {
-            finish_text(report, texts::file_failed(alloc, name), Ended::File)
+            finish_text(report, texts::file_failed(alloc, job.file), Ended::File)
         }
         Err(LoadFault::TooLong) => {
-            finish_text(report, texts::file_long(alloc, name), Ended::File)
+            finish_text(report, texts::file_long(alloc, job.file), Ended::File)
         }
         Err(LoadFault::Memory) => Ended::Memory,
     }
 }
 
 // Goes on from a file that was loaded: whatever led there, the answer is the whole call's.
-fn run_file<S: Source, T: Sink>(
+fn run_file<S: Source, V: Sink, T: Sink, L: Ledger>(
     alloc: Global,
-    name: &str,
+    job: Job<'_>,
     file: Vec<u8>,
     stimulus: &mut S,
+    out: &mut V,
     report: &mut T,
+    steps: &mut Steps<L>,
 ) -> Ended
-    requires { length file.items ≤ 4194304 }
-    ensures { (content : List ℕ → Option (List ℕ)) (told : Bool) (words : List (List ℕ)) (loads0 loads1 : ℕ) (out : Option (List ℕ))
-        → words_of words ≡ allowed name.now → Loaded content told (name.now ∷ []) (file.items ∷ []) → Answers layers content told words
-        (moment (S.left stimulus.old) (S.faults stimulus.old) out (T.held report.old) (T.faults report.old) loads0)
-        (moment (S.left stimulus.new) (S.faults stimulus.new) out (T.held report.new) (T.faults report.new) loads1) (status_of result) }
+    requires file { length file.items ≤ 4194304 }
+    requires lag { job.lag ≤ 16384 }
+    ensures { (content : List ℕ → Option (List ℕ)) (told : Bool) (words : List (List ℕ)) (loads0 loads1 : ℕ)
+        → asked.words_of words ≡ allowed (asked.job job.entry.lag job.entry.file.now) → Loaded content told (job.entry.file.now ∷ []) (file.items ∷ []) → Answers layers content told words
+        (moment (S.left stimulus.old) (S.faults stimulus.old) (V.held out.old) (V.faults out.old) (T.held report.old) (T.faults report.old) loads0)
+        (moment (S.left stimulus.new) (S.faults stimulus.new) (V.held out.new) (V.faults out.new) (T.held report.new) (T.faults report.new) loads1) (status_of result) }
 {
     let Ok(text) = design_text(file) else {
         return Ended::Memory;
     };
     match read_design(alloc, &text) {
-        Ok(flat) => run_design(alloc, name, &flat, stimulus, report),
+        Ok(flat) => run_design(alloc, job, &flat, stimulus, out, report, steps),
         Err(DesignFault::NotYetBuilt) => finish(report, texts::DESIGN_REFUSED, Ended::Design),
         Err(DesignFault::Memory) => Ended::Memory,
     }
@@ -127,27 +138,30 @@ fn ends_line(bytes: &[u8]) -> bool
 }
 
 // Goes on from an accepted design: whatever led there, the answer is the whole call's.
-fn run_design<S: Source, T: Sink>(
+fn run_design<S: Source, V: Sink, T: Sink, L: Ledger>(
     alloc: Global,
-    name: &str,
+    job: Job<'_>,
     flat: &Flat,
     stimulus: &mut S,
+    out: &mut V,
     report: &mut T,
+    steps: &mut Steps<L>,
 ) -> Ended
-    requires { flat.now.inputs ≡ length (input_names flat.now.signals) }
-    ensures { (m : Module) (files : List (List ℕ)) (content : List ℕ → Option (List ℕ)) (told : Bool) (words : List (List ℕ)) (loads0 loads1 : ℕ) (out : Option (List ℕ))
-        → words_of words ≡ allowed name.now → Loaded content told (name.now ∷ []) files → OneDesign files m → StandsFor flat.now m → Answers layers content told words
-        (moment (S.left stimulus.old) (S.faults stimulus.old) out (T.held report.old) (T.faults report.old) loads0)
-        (moment (S.left stimulus.new) (S.faults stimulus.new) out (T.held report.new) (T.faults report.new) loads1) (status_of result) }
+    requires inputs { flat.now.inputs ≡ length (input_names flat.now.signals) }
+    requires lag { job.lag ≤ 16384 }
+    ensures { (m : Module) (files : List (List ℕ)) (content : List ℕ → Option (List ℕ)) (told : Bool) (words : List (List ℕ)) (loads0 loads1 : ℕ)
+        → asked.words_of words ≡ allowed (asked.job job.entry.lag job.entry.file.now) → Loaded content told (job.entry.file.now ∷ []) files → OneDesign files m → StandsFor flat.now m → Answers layers content told words
+        (moment (S.left stimulus.old) (S.faults stimulus.old) (V.held out.old) (V.faults out.old) (T.held report.old) (T.faults report.old) loads0)
+        (moment (S.left stimulus.new) (S.faults stimulus.new) (V.held out.new) (V.faults out.new) (T.held report.new) (T.faults report.new) loads1) (status_of result) }
 {
     let Ok(mut reader) = StimReader::new(alloc, flat) else {
         return Ended::Memory;
     };
-    let Ok(mut run) = Run::start(alloc, flat) else {
+    let Ok(mut run) = Run::start(alloc, flat, job.lag) else {
         return Ended::Memory;
     };
-    match run_rows(alloc, &mut reader, &mut run, stimulus) {
-        Ok(()) => settle(alloc, name, flat, &run, report),
+    match run_rows(alloc, &mut reader, &mut run, stimulus, steps) {
+        Ok(()) => settle(alloc, job, &run, out, report, steps),
         Err(fault) => give_up(fault, report),
     }
 }
@@ -173,23 +187,70 @@ fn refuse<T: Sink>(fault: StimFault, report: &mut T) -> Ended
     }
 }
 
-// Writes the report of a run over all rows.
-fn settle<T: Sink>(alloc: Global, name: &str, flat: &Flat, run: &Run<'_>, report: &mut T) -> Ended
-    ensures { Settles name.now flat.now.name run.now (status_of result) (T.held report.old) (T.held report.new) (T.faults report.old) (T.faults report.new) }
+// Writes what comes of a run over all rows.
+fn settle<V: Sink, T: Sink, L: Ledger>(
+    alloc: Global,
+    job: Job<'_>,
+    run: &Run<'_>,
+    out: &mut V,
+    report: &mut T,
+    steps: &mut Steps<L>,
+) -> Ended
+    requires { (rows : List (List ℕ)) × RanTo run.now.flat rows run.now }
+    ensures { (rows : List (List ℕ)) → RanTo run.now.flat rows run.now → job.entry.lag < run.now.window.period → Settles (asked.job job.entry.lag job.entry.file.now) run.now.flat rows run.now (status_of result)
+        (sinks (V.held out.old) (V.faults out.old) (T.held report.old) (T.faults report.old))
+        (sinks (V.held out.new) (V.faults out.new) (T.held report.new) (T.faults report.new)) }
 {
     match run.failure() {
-        Some(failure) => {
-            let first = failure.cycle.saturating_sub(LAG);
-            let text = texts::failure(
-                alloc,
-                flat.name(),
-                name.as_bytes(),
-                failure.cycle,
-                &failure.fired,
-                first,
-            );
-            finish_text(report, text, Ended::Failure)
-        }
+        Some(failure) => fail(alloc, job, run, failure, out, report, steps),
         None => finish_text(report, texts::quiet(alloc, run.cycles()), Ended::Quiet),
     }
+}
+
+// Writes the waveform of the window of a failure, and the report.
+fn fail<V: Sink, T: Sink, L: Ledger>(
+    alloc: Global,
+    job: Job<'_>,
+    run: &Run<'_>,
+    failure: &Failure,
+    out: &mut V,
+    report: &mut T,
+    steps: &mut Steps<L>,
+) -> Ended
+    requires { (rows : List (List ℕ)) × RanTo run.now.flat rows run.now × (run.now.failure ≡ Some failure.now) }
+    ensures { (rows : List (List ℕ)) → RanTo run.now.flat rows run.now → job.entry.lag < run.now.window.period → run.now.failure ≡ Some failure.now
+        → Settles (asked.job job.entry.lag job.entry.file.now) run.now.flat rows run.now (status_of result)
+        (sinks (V.held out.old) (V.faults out.old) (T.held report.old) (T.faults report.old))
+        (sinks (V.held out.new) (V.faults out.new) (T.held report.new) (T.faults report.new)) }
+{
+    let first = failure.cycle.saturating_sub(u64::from(job.lag));
+    match write_window(alloc, run.flat(), run.window(), first, out, steps) {
+        Ok(()) => finish_text(
+            report,
+            failure_report(alloc, job, run.flat(), failure, first),
+            Ended::Failure,
+        ),
+        Err(VcdFault::Write) => finish(report, texts::WRITE_FAILED, Ended::Writing),
+        Err(VcdFault::Memory) => Ended::Memory,
+    }
+}
+
+// The report of a failure whose window begins in the cycle `first`.
+fn failure_report(
+    alloc: Global,
+    job: Job<'_>,
+    flat: &Flat,
+    failure: &Failure,
+    first: u64,
+) -> Result<Vec<u8>, NoMemory>
+    ensures { IfOk result (λ text. text.items ≡ failure_text failure.now.cycle (map (stop_of flat.now.name job.entry.file.now) failure.now.fired) first) }
+{
+    texts::failure(
+        alloc,
+        flat.name(),
+        job.file.as_bytes(),
+        failure.cycle,
+        &failure.fired,
+        first,
+    )
 }

@@ -1,23 +1,95 @@
 //! The words of a command line.
 
-ghost use Rattle.std.specs.Prelude.{◌≡◌, map, MatchOption, ◌==◌};
-ghost use Rattle.std.specs.List.{list_any};
+ghost use Rattle.std.specs.Prelude.{◌≡◌, ◌≤◌, map, MatchOption, ◌==◌, nat_le};
+ghost use Rattle.std.specs.Char.{is_ascii_digit};
+ghost use Rattle.std.specs.List.{list_all, list_any};
 ghost use Rattle.dessert.specs.Answer.{allowed, bad};
-ghost use Rattle.dessert.specs.Outcome.{words_of, is_file_word};
+ghost use Rattle.dessert.specs.Words as spec;
 
-/// The file word of `sim FILE`, or none where the words have another form.
-pub fn read_words<'a>(words: &[&'a str]) -> Option<&'a str>
-    ensures { MatchOption result (words_of (map (λ w. w.now) words.now) ≡ bad) (λ name. words_of (map (λ w. w.now) words.now) ≡ allowed name.now) }
+/// The lag where none is set, in cycles.
+const DEFAULT_LAG: u32 = 64;
+
+/// The greatest lag, in cycles.
+const MAX_LAG: u32 = 16384;
+
+/// What the words ask for: how many cycles before the failure the window begins, and the file of the design.
+#[derive(Clone, Copy)]
+pub struct Job<'a> {
+    pub lag: u32,
+    pub file: &'a str,
+}
+
+/// What `sim`, at most one `lag=N`, and a file ask for; none where the words have another form.
+pub fn read_words<'a>(words: &[&'a str]) -> Option<Job<'a>>
+    ensures words { MatchOption result (spec.words_of (map (λ w. w.now) words.now) ≡ bad) (λ j. spec.words_of (map (λ w. w.now) words.now) ≡ allowed (spec.job j.lag j.file.now)) }
+    ensures lag { MatchOption result (Unit {0}) (λ j. j.lag ≤ 16384) }
 {
     match words {
-        [command, name] if *command == "sim" && is_file_word(name) => Some(*name),
+        [command, file] if *command == "sim" && is_file_word(file) => Some(Job {
+            lag: DEFAULT_LAG,
+            file: *file,
+        }),
+        [command, setting, file] if *command == "sim" && is_file_word(file) => {
+            let lag = read_lag(setting)?;
+            Some(Job { lag, file: *file })
+        }
         _ => None,
     }
 }
 
+// The lag that a word sets.
+fn read_lag(word: &str) -> Option<u32>
+    ensures value { result ≡ spec.lag_of word.now }
+    ensures most { MatchOption result (Unit {0}) (λ lag. lag ≤ 16384) }
+{
+    let digits = word.as_bytes().strip_prefix(b"lag=")?;
+    if !is_decimal(digits) {
+        return None;
+    }
+    read_number(digits, MAX_LAG)
+}
+
+// Whether these are the digits of a number, without a leading zero, `0` aside.
+fn is_decimal(digits: &[u8]) -> bool
+    ensures { result ≡ spec.is_decimal digits.now }
+{
+    match digits {
+        [] => false,
+        [first, rest @ ..] => are_digits(digits) && (*first != b'0' || rest.is_empty()),
+    }
+}
+
+// Whether each byte is a digit.
+fn are_digits(bytes: &[u8]) -> bool
+    ensures { result ≡ list_all is_ascii_digit bytes.now }
+{
+    for byte in bytes {
+        if !byte.is_ascii_digit() {
+            return false;
+        }
+    }
+    true
+}
+
+// The number of these digits, where it is `most` at most.
+fn read_number(digits: &[u8], most: u32) -> Option<u32>
+    requires { most ≤ 16384 }
+    ensures value { result ≡ spec.some_when (nat_le (spec.decimal_of digits.now) most) (spec.decimal_of digits.now) }
+    ensures most { MatchOption result (Unit {0}) (λ number. number ≤ most) }
+{
+    let mut number: u32 = 0;
+    for digit in digits {
+        number = 10 * number + u32::from(digit.saturating_sub(b'0'));
+        if number > most {
+            return None;
+        }
+    }
+    Some(number)
+}
+
 // Whether a word may be a file: it isn't empty and has no equals sign.
 fn is_file_word(word: &str) -> bool
-    ensures { result ≡ is_file_word word.now }
+    ensures { result ≡ spec.is_file_word word.now }
 {
     !word.is_empty() && !has_equals(word.as_bytes())
 }

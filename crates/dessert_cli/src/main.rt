@@ -1,16 +1,21 @@
 //! The program: the words, the real files and streams, and the status that it ends with.
 //!
-//! Below: `dessert` (the top call), `dt_io` (std's streams and files behind the traits).
+//! Below: `dessert` (the top call), `dt_io` (std's streams and files behind the traits), `plain_sim` (the count of steps).
 #![tactic(auto)]
 
 mod help;
+
+ghost use Rattle.std.specs.Prelude.{◌≡◌, ◌<◌};
 
 use dessert::quiet_main;
 use dt_io::outside::{Sink, write_all};
 use dt_io::real::{DiskFiles, StdSink, StdSource};
 use help::{HELP, VERSION};
+use plain_sim::steps::Steps;
 use std::alloc::{AllocError, Global};
+use std::marker::Brand;
 use std::process::ExitCode;
+use std::sync::ledger::{Blank, Ledger};
 use std::{env, io};
 
 // Want of memory.
@@ -30,7 +35,7 @@ fn main(rt: HostRuntime) -> io::Result<ExitCode> {
     let status = match words.as_slice() {
         [first, ..] if *first == "--help" => print(&mut out, HELP),
         [first, ..] if *first == "--version" => print(&mut out, VERSION),
-        all => run(rt, all, &mut out),
+        all => run::<_, Brand>(rt, all, &mut out, Blank::new(1)),
     };
     Ok(ExitCode::from(status))
 }
@@ -66,8 +71,11 @@ fn print<K: Sink>(out: &mut K, text: &[u8]) -> u8 {
     }
 }
 
-// The top call over the real outside.
-fn run<K: Sink>(rt: HostRuntime, words: &[&str], out: &mut K) -> u8 {
+// The top call over the real outside. Its steps count on a ledger of their own, which takes no bytes.
+fn run<K: Sink, L: Ledger>(rt: HostRuntime, words: &[&str], out: &mut K, blank: Blank) -> u8
+    requires name { blank.name ≡ L.name }
+    requires parts { (blank.parts ≡ L.parts) × (0 < blank.parts) }
+{
     let mut files = DiskFiles::new(rt);
     let mut stimulus = StdSource::new(rt.stdin());
     let mut report = StdSink::new(rt.stderr());
@@ -78,5 +86,6 @@ fn run<K: Sink>(rt: HostRuntime, words: &[&str], out: &mut K) -> u8 {
         &mut stimulus,
         out,
         &mut report,
+        &mut Steps::<L>::new(blank),
     )
 }

@@ -1,5 +1,5 @@
 -- The run of a numbered design: the values of its nodes in a cycle, its next state, and what fires. This project's own.
-use Rattle.std.specs.Prelude.{◌≡◌, ℕ, zero, suc, ◌+◌, ◌<◌, ◌≤◌, ◌==◌, ◌&&◌, Bool, true, false, not, if◌then◌else◌, List, [], ◌∷◌, ◌++◌, length, replicate, slice_index, slice_index_or, slice_set, slice_get, Option, Some, None}
+use Rattle.std.specs.Prelude.{◌≡◌, ℕ, zero, suc, ◌<◌, ◌≤◌, ◌==◌, ◌&&◌, Bool, if◌then◌else◌, List, [], ◌∷◌, ◌++◌, length, replicate, slice_index, slice_index_or, slice_set, slice_get, Option, Some, None}
 use Rattle.bit_ops.specs.Operators.{low, add, bit, holds}
 use Rattle.flat_ir.specs.declared.design.Role.{Role}
 use Rattle.flat_ir.specs.declared.design.Role.TheVariants as role
@@ -57,6 +57,7 @@ pub record IsWellFormed (f : Flat) : Type 0 where
   pub conditions : (k : ℕ) (x : Action) → slice_get f.actions k ≡ Some x → x.condition < length f.nodes
   pub deeds : (k : ℕ) (x : Action) → slice_get f.actions k ≡ Some x → DeedFits (length f.registers) (length f.nodes) x.deed
   pub signals : (k : ℕ) (x : Signal) → slice_get f.signals k ≡ Some x → RoleFits f.inputs (length f.registers) x.role
+  pub widths : (k : ℕ) (x : Signal) → slice_get f.signals k ≡ Some x → (1 ≤ x.width) × (x.width ≤ 128)
 
 -- ---- a cycle
 

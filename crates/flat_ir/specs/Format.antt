@@ -1,6 +1,6 @@
 -- The text that a format and its arguments give (IEEE 1364-2005, clause 17.1.1): `%0d` shows the next argument with the fewest
 -- decimal digits, in either case of the letter, and `%%` is a percent sign. No other item stands here.
-use Rattle.std.specs.Prelude.{ℕ, suc, ◌+◌, ◌==◌, ◌||◌, Bool, true, false, List, [], ◌∷◌, ◌++◌, Option, Some, None, decimal, if◌then◌else◌}
+use Rattle.std.specs.Prelude.{ℕ, ◌+◌, ◌==◌, ◌||◌, List, [], ◌∷◌, ◌++◌, Option, Some, None, decimal, if◌then◌else◌}
 
 -- what was read last: nothing of an item, a percent sign, or a percent sign and a 0
 pub data Progress : Type 0 where

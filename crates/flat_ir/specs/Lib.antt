@@ -3,3 +3,5 @@ pub mod FormatView
 pub mod Fired
 pub mod FlatRun
 pub mod Names
+pub mod Variables
+pub mod Shown

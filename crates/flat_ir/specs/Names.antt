@@ -1,5 +1,5 @@
 -- The names of a numbered design's data inputs, and which numbers fit its widths. This project's own.
-use Rattle.std.specs.Prelude.{◌≡◌, ℕ, ◌^◌, ◌<◌, List, [], ◌∷◌, ◌++◌}
+use Rattle.std.specs.Prelude.{ℕ, ◌^◌, ◌<◌, List, [], ◌∷◌, ◌++◌}
 use Rattle.flat_ir.specs.declared.design.Role.{Role}
 use Rattle.flat_ir.specs.declared.design.Role.TheVariants as role
 use Rattle.flat_ir.specs.declared.design.Signal.{Signal}

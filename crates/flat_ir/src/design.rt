@@ -2,6 +2,14 @@
 
 use dt_core::text::Text;
 
+/// What a signal was declared as.
+#[derive(Clone, Copy, Debug, PartialEq, Eq)]
+pub enum SignalKind {
+    Wire,
+    Reg,
+    Integer,
+}
+
 /// What a signal shows: the clock, or the data input or the register of a number.
 #[derive(Clone, Copy, Debug, PartialEq, Eq)]
 pub enum Role {
@@ -10,10 +18,11 @@ pub enum Role {
     Register(u32),
 }
 
-/// A named signal: its name, its width in bits, and what it shows.
+/// A named signal: its name, its kind, its width of 1 to 128 bits, and what it shows.
 #[derive(Debug, Drop)]
 pub struct Signal {
     pub name: Text,
+    pub kind: SignalKind,
     pub width: u32,
     pub role: Role,
 }

@@ -81,7 +81,8 @@ impl Flat {
 
     /// The signals, in order of the text.
     pub fn signals(&self) -> &[Signal]
-        ensures { result.now ≡ self.now.signals }
+        ensures signals { result.now ≡ self.now.signals }
+        ensures fit { IsWellFormed self.now }
     {
         &self.signals
     }

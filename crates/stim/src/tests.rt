@@ -5,7 +5,7 @@ ghost use Rattle.std.specs.Prelude.{◌≤◌, length};
 use crate::reader::{StimFault, StimReader};
 use dt_core::text::Text;
 use dt_io::memory::MemSource;
-use flat_ir::design::{Role, Signal};
+use flat_ir::design::{Role, Signal, SignalKind};
 use flat_ir::flat::{Flat, FlatDraft};
 use std::alloc::Global;
 use std::test::*;
@@ -17,12 +17,14 @@ fn design(alloc: Global, names: &[&str]) -> Result<Flat, Fail>
     let mut signals = Vec::new(alloc);
     signals.push(Signal {
         name: Text::copied(alloc, b"clk")?,
+        kind: SignalKind::Wire,
         width: 1,
         role: Role::Clock,
     })?;
     for (i, name) in names.iter().enumerate() {
         signals.push(Signal {
             name: Text::copied(alloc, name.as_bytes())?,
+            kind: SignalKind::Wire,
             width: 1,
             role: Role::Input(i as u32),
         })?;

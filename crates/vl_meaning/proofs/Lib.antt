@@ -2,3 +2,4 @@ pub mod OneBit
 pub mod SameRunLaw
 mod ExpressionExamples
 mod RunExamples
+mod ShownExamples

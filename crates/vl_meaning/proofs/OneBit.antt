@@ -1,9 +1,9 @@
 -- A data input of a module without static fault has one bit: its name is no other port's, and an input is a scalar.
 use Rattle.std.proofs.Common.{◌≡◌, ℕ, Bool, true, false, not, ◌&&◌, if◌then◌else◌, List, [], ◌∷◌, ◌++◌, length, map, refl, sym, ap, ◌∙◌, inl, inr}
-use Rattle.std.specs.Prelude.{◌⊎◌, Option, Some, None, is_some, bytes_eq, replicate}
+use Rattle.std.specs.Prelude.{◌⊎◌, Some, is_some, bytes_eq, replicate}
 use Rattle.std.proofs.lemmas.Slice.Eq.{bytes_eq-Decides}
 use Rattle.vl_tree.specs.Tree.{Text, Port, input, output, Module}
-use Rattle.vl_meaning.specs.Objects.{port_name, port_named, width_or_none, width_of, data_input, data_inputs_of, data_inputs}
+use Rattle.vl_meaning.specs.Objects.{port_name, port_named, width_or_none, width_of, data_inputs_of, data_inputs}
 use Rattle.vl_meaning.specs.Faults.{are_distinct, are_declared, is_sound}
 use Rattle.vl_meaning.specs.StandsFor.{input_widths}
 

@@ -1,13 +1,14 @@
--- That a design which stands for a module has the module's run, by induction on the cycle.
-use Rattle.std.proofs.Common.{◌≡◌, ℕ, zero, suc, ◌^◌, ◌<◌, ◌≤◌, List, [], ◌∷◌, length, map, refl, sym, ap, subst, ◌∙◌, arith}
+-- That a design which stands for a module has the module's run, and shows what the module shows, by induction on the cycle.
+use Rattle.std.proofs.Common.{◌≡◌, ℕ, zero, suc, ◌<◌, ◌≤◌, List, [], ◌∷◌, length, ap, subst, ◌∙◌, arith}
 use Rattle.std.specs.Prelude.{slice_index_or, replicate}
 use Rattle.std.proofs.lemmas.Nat.{pow_pos}
-use Rattle.flat_ir.specs.FlatRun.{Flat, flat_start, flat_state, flat_next, flat_fired}
+use Rattle.flat_ir.specs.FlatRun.{Flat, flat_start, flat_state, flat_fired}
 use Rattle.flat_ir.specs.Names.{Fit}
-use Rattle.vl_tree.specs.Tree.{Text, Module}
-use Rattle.vl_meaning.specs.Objects.{registers, width_of}
-use Rattle.vl_meaning.specs.Run.{state, next, fired, fires}
-use Rattle.vl_meaning.specs.StandsFor.{StandsFor, by_names, input_widths, register_widths}
+use Rattle.flat_ir.specs.Shown.{flat_shown}
+use Rattle.vl_tree.specs.Tree.{Module}
+use Rattle.vl_meaning.specs.Run.{next, fired, fires}
+use Rattle.vl_meaning.specs.Shown.{shown, shown_at}
+use Rattle.vl_meaning.specs.StandsFor.{StandsFor, register_widths}
 use Rattle.vl_meaning.specs.SameRun.{AllFit, SameAt, SameRun}
 
 -- zeros fit every width
@@ -31,5 +32,10 @@ module _ (f : Flat) (m : Module) (rows : List (List ℕ)) (s : StandsFor f m) (f
       let i = same_at t (omega (arith, h)) in
       s.fired (slice_index_or rows t []) (flat_state f rows t) (fit t h) i.fits ∙ ap (fired m (slice_index_or rows t [])) i.state
 
+  pub same_shown : (t : ℕ) → t < length rows → flat_shown f (slice_index_or rows t []) (flat_state f rows t) ≡ shown_at m rows t
+  same_shown t h =
+      let i = same_at t (omega (arith, h)) in
+      s.shown (slice_index_or rows t []) (flat_state f rows t) (fit t h) i.fits ∙ ap (shown m (slice_index_or rows t [])) i.state
+
 pub same_run : SameRun
-same_run f m rows s fit = (same_at f m rows s fit, same_fires f m rows s fit)
+same_run f m rows s fit = (same_at f m rows s fit, same_fires f m rows s fit, same_shown f m rows s fit)

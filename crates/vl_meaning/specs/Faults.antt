@@ -1,6 +1,6 @@
 -- The static faults that a module with one clocked block can have; a module is sound where it has none. This project's own limits
 -- and kinds; the rules are those of IEEE 1364-2005, clauses 4, 9.2 and 12.3, for one clock.
-use Rattle.std.specs.Prelude.{ℕ, ◌+◌, ◌==◌, nat_le, Bool, true, false, not, ◌&&◌, ◌||◌, List, [], ◌∷◌, length, Option, Some, None, is_some, bytes_eq, pos, int_le}
+use Rattle.std.specs.Prelude.{ℕ, ◌+◌, ◌==◌, nat_le, Bool, true, false, not, ◌&&◌, List, [], ◌∷◌, length, Option, Some, None, is_some, bytes_eq, pos, int_le}
 use Rattle.std.specs.List.{list_all}
 use Rattle.flat_ir.specs.Format.{items}
 use Rattle.vl_tree.specs.Token.{Literal}

@@ -3,5 +3,6 @@ pub mod Faults
 pub mod Expression
 pub mod Statement
 pub mod Run
+pub mod Shown
 pub mod StandsFor
 pub mod SameRun

@@ -1,5 +1,5 @@
 -- What the names of a module stand for (IEEE 1364-2005, clauses 4.2, 4.3 and 12.3).
-use Rattle.std.specs.Prelude.{ℕ, ◌+◌, ◌-◌, Bool, true, false, not, ◌&&◌, if◌then◌else◌, List, [], ◌∷◌, ◌++◌, Option, Some, None, bytes_eq, ℤ, pos, int_le}
+use Rattle.std.specs.Prelude.{ℕ, ◌+◌, ◌-◌, if◌then◌else◌, List, [], ◌∷◌, ◌++◌, Option, Some, None, bytes_eq, ℤ}
 use Rattle.bit_ops.specs.Operators.{integer}
 use Rattle.vl_tree.specs.Token.{Literal}
 use Rattle.vl_tree.specs.Tree.{Text, Port, input, output, Module}

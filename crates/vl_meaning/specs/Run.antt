@@ -5,7 +5,7 @@ use Rattle.dt_core.specs.Least.{least}
 use Rattle.flat_ir.specs.Fired.{Fired, fired_in}
 use Rattle.vl_tree.specs.Tree.{Text, Module}
 use Rattle.vl_meaning.specs.Objects.{data_inputs, registers}
-use Rattle.vl_meaning.specs.Expression.{Cell, Values, Context}
+use Rattle.vl_meaning.specs.Expression.{Cell, Values}
 use Rattle.vl_meaning.specs.Statement.{Outcome, execute_all, all_stored}
 
 -- a name with a number

@@ -1,12 +1,12 @@
 -- The execution of a statement (IEEE 1364-2005, clause 9): its nonblocking writes and its events, in order.
 -- A nonblocking assignment is only listed (9.2.2), so all statements of a block read the same values.
-use Rattle.std.specs.Prelude.{ℕ, Bool, true, false, if◌then◌else◌, List, [], ◌∷◌, ◌++◌, Option, Some, None, bytes_eq}
+use Rattle.std.specs.Prelude.{ℕ, true, false, if◌then◌else◌, List, [], ◌∷◌, ◌++◌, Option, Some, None, bytes_eq}
 use Rattle.bit_ops.specs.Operators.{holds}
 use Rattle.flat_ir.specs.Format.{format_text}
 use Rattle.flat_ir.specs.Fired.{Event, said, stopped}
-use Rattle.vl_tree.specs.Tree.{Text, Expr, Stmt, block, conditional, assign, display, stop, Stmts, no_stmt, more_stmt, Branches, no_branch, more_branch, Otherwise, no_else, else_stmt}
+use Rattle.vl_tree.specs.Tree.{Text, Stmt, block, conditional, assign, display, stop, Stmts, no_stmt, more_stmt, Branches, no_branch, more_branch, Otherwise, no_else, else_stmt}
 use Rattle.vl_meaning.specs.Objects.{width_of}
-use Rattle.vl_meaning.specs.Expression.{Cell, Values, value_at, Context, own, assigned, meaning}
+use Rattle.vl_meaning.specs.Expression.{Values, value_at, Context, own, assigned, meaning}
 
 -- ---- writes
 

@@ -121,7 +121,7 @@ pub record IsRegister (r : ℕ) (ps : List Port) (x : Text) (j : ℕ) : Type 0 w
   pub write : (state : List ℕ) (v : ℕ) → length state ≡ length (registers_of ps)
       → stored (record { name = x; value = v }) (cells (registers_of ps) state) ≡ cells (registers_of ps) (slice_set state d v)
 
-not_register : (clock : Text) (i r : ℕ) (y : Text) (j : ℕ) → (signal_of clock i r (input y)).role ≡ role.Register j → ⊥
+pub not_register : (clock : Text) (i r : ℕ) (y : Text) (j : ℕ) → (signal_of clock i r (input y)).role ≡ role.Register j → ⊥
 not_register clock i r y j h = elim (cases_Bool (bytes_eq y clock)) [
   | inl k ↦ let g : role.Clock ≡ role.Register j = rw k at h in cc
   | inr k ↦ let g : role.Input i ≡ role.Register j = rw k at h in cc

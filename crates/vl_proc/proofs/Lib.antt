@@ -2,6 +2,7 @@ pub mod Ports
 pub mod Cells
 pub mod Values
 pub mod Sees
+pub mod Shows
 pub mod Builds
 pub mod Made
 pub mod Turns

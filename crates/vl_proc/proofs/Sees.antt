@@ -57,6 +57,13 @@ found_range clock i r (p ∷ ps) x s a h = elim (cases_Bool (bytes_eq (port_name
   | inr e ↦ found_range clock (i + length (data_input clock p)) (r + length (register p)) ps x s (both_true _ _ a).1 (rw e at h)
 ]
 
+-- so has each signal
+pub widths_fit : (clock : Text) (i r : ℕ) (ps : List Port) (k : ℕ) (s : Signal) → list_all is_narrow ps ≡ true → slice_get (signals_of clock i r ps) k ≡ Some s → (1 ≤ s.width) × (s.width ≤ 128)
+widths_fit clock i r [] k s a h = absurd cc
+widths_fit clock i r (p ∷ ps) zero s a h =
+    subst (λ (t : Signal). (1 ≤ t.width) × (t.width ≤ 128)) (some_signal (signal_of clock i r p) s h) (some_width p, leb-true (port_width p) 128 (both_true _ _ a).0)
+widths_fit clock i r (p ∷ ps) (suc k) s a h = widths_fit clock (i + length (data_input clock p)) (r + length (register p)) ps k s (both_true _ _ a).1 h
+
 -- ---- reads
 
 -- a name's value doesn't come from the clock

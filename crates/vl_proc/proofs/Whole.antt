@@ -9,6 +9,8 @@ use Rattle.flat_ir.specs.declared.design.Action.{Action}
 use Rattle.flat_ir.specs.Fired.{fired_in}
 use Rattle.flat_ir.specs.FlatRun.{Flat, IsWellFormed, NodeFits, DeedFits, values_from}
 use Rattle.flat_ir.specs.Names.{input_names}
+use Rattle.flat_ir.specs.Shown.{variable_of, signal_value}
+use Rattle.flat_ir.specs.Variables.{scope, no_scopes}
 use Rattle.vl_tree.specs.Tree.{Text, Module}
 use Rattle.vl_meaning.specs.Objects.{data_inputs, registers}
 use Rattle.vl_meaning.specs.Faults.{are_declared, is_sound}
@@ -18,7 +20,8 @@ use Rattle.vl_meaning.specs.StandsFor.{StandsFor, by_names}
 use Rattle.vl_proc.specs.Ports.{IsTable, widths_of}
 use Rattle.vl_proc.specs.Lowers.{context, node_value, ActionsFit, Done, gate, Adds, IsBuilt}
 use Rattle.vl_proc.proofs.Ports.{both_true, widths_length, widths_by_name, names_are, roles_fit, role_as}
-use Rattle.vl_proc.proofs.Sees.{distinct_of}
+use Rattle.vl_proc.proofs.Sees.{distinct_of, narrow_of, widths_fit}
+use Rattle.vl_proc.proofs.Shows.{same_variables, same_values}
 use Rattle.vl_proc.proofs.Values.{old_value, grown_none, added}
 
 -- ---- a sound module
@@ -62,9 +65,9 @@ design name signals inputs widths nodes actions = record { name = name; signals 
 register_count : (m : Module) (widths : List ℕ) → widths ≡ widths_of m.ports → length (registers m) ≡ length widths
 register_count m widths e = sym (ap length e ∙ widths_length m.ports)
 
-pub design_fits : (m : Module) (name : Text) (signals : List Signal) (inputs : ℕ) (widths : List ℕ) (nodes : List Node) (actions : List Action) → IsTable m.clock m.ports signals inputs widths → IsBuilt m nodes actions
-    → IsWellFormed (design name signals inputs widths nodes actions)
-design_fits m name signals inputs widths nodes actions t b =
+pub design_fits : (m : Module) (name : Text) (signals : List Signal) (inputs : ℕ) (widths : List ℕ) (nodes : List Node) (actions : List Action) → are_declared m ≡ true → IsTable m.clock m.ports signals inputs widths
+    → IsBuilt m nodes actions → IsWellFormed (design name signals inputs widths nodes actions)
+design_fits m name signals inputs widths nodes actions declared t b =
     let r : length (registers m) ≡ length widths = register_count m widths t.widths_are in
     let i : length (data_inputs m) ≡ inputs = sym t.inputs_are in
     record {
@@ -73,6 +76,7 @@ design_fits m name signals inputs widths nodes actions t b =
       deeds = λ k x h. subst (λ (q : ℕ). DeedFits q (length nodes) x.deed) r (deed_fits (length (registers m)) (length nodes) actions b.actions_fit k x h);
       signals = λ k x h. role_as (0 + length (data_inputs m)) inputs (0 + length (registers m)) (length widths) x.role (omega (arith, i)) (omega (arith, r))
           (roles_fit m.clock 0 0 m.ports k x (ap (λ (ss : List Signal). slice_get ss k) (sym t.signals_are) ∙ h));
+      widths = λ k x h. widths_fit m.clock 0 0 m.ports k x (narrow_of m declared) (ap (λ (ss : List Signal). slice_get ss k) (sym t.signals_are) ∙ h);
     }
 
 -- zeros by number are zeros by name
@@ -87,7 +91,9 @@ design_stands m name signals inputs widths nodes actions named declared t b = re
   inputs = ap input_names t.signals_are ∙ names_are m.clock 0 0 m.ports;
   input_count = t.inputs_are;
   widths = t.widths_are ∙ widths_by_name m.ports (distinct_of m declared);
+  scope = (λ i. scope true (named i) (map variable_of (t.signals_are i)) no_scopes) ∙ ap (λ vs. scope true m.name vs no_scopes) (same_variables m declared);
   start = ap (λ (q : ℕ). cells (registers m) (replicate q 0)) (sym (register_count m widths t.widths_are)) ∙ zeros_named (registers m);
   next = λ row state f g. (b.done row state f g).after state g;
   fired = λ row state f g. ap (fired_in []) (b.done row state f g).events;
+  shown = λ row state f g. ap (map (signal_value row state)) t.signals_are ∙ same_values m declared row state f g;
 }

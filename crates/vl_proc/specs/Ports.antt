@@ -2,6 +2,8 @@
 use Rattle.std.specs.Prelude.{◌≡◌, ℕ, ◌+◌, true, if◌then◌else◌, List, [], ◌∷◌, ◌++◌, length, Option, Some, None, bytes_eq}
 use Rattle.flat_ir.specs.declared.design.Role.{Role}
 use Rattle.flat_ir.specs.declared.design.Role.TheVariants as role
+use Rattle.flat_ir.specs.declared.design.SignalKind.{SignalKind}
+use Rattle.flat_ir.specs.declared.design.SignalKind.TheVariants as kind
 use Rattle.flat_ir.specs.declared.design.Signal.{Signal}
 use Rattle.vl_tree.specs.Tree.{Text, Port, input, output, Module}
 use Rattle.vl_meaning.specs.Objects.{port_name, port_width, data_input, data_inputs_of, register}
@@ -12,8 +14,13 @@ abbrev pub role_of : Text → ℕ → ℕ → Port → Role
 role_of clock i r (input x) = if bytes_eq x clock then role.Clock else role.Input i
 role_of clock i r (output x a b) = role.Register r
 
+-- what a port was declared as
+abbrev pub kind_of : Port → SignalKind
+kind_of (input x) = kind.Wire
+kind_of (output x a b) = kind.Reg
+
 abbrev pub signal_of : Text → ℕ → ℕ → Port → Signal
-signal_of clock i r p = record { name = port_name p; width = port_width p; role = role_of clock i r p }
+signal_of clock i r p = record { name = port_name p; kind = kind_of p; width = port_width p; role = role_of clock i r p }
 
 -- the signals of ports, in order
 abbrev pub signals_of : Text → ℕ → ℕ → List Port → List Signal
@@ -42,7 +49,8 @@ pub record IsTable (clock : Text) (ports : List Port) (signals : List Signal) (i
   pub inputs_are : inputs ≡ length (data_inputs_of clock ports)
   pub widths_are : widths ≡ widths_of ports
 
--- a module whose declarations have no fault, with the signals of its ports
-pub record Knows (m : Module) (signals : List Signal) : Type 0 where
+-- a module whose declarations have no fault, with its ports, as those that are found by name, and their signals
+pub record Knows (m : Module) (named : List Port) (signals : List Signal) : Type 0 where
+  pub named_are : named ≡ m.ports
   pub declared : are_declared m ≡ true
   pub signals_are : signals ≡ signals_of m.clock 0 0 m.ports

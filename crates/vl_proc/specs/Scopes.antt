@@ -8,6 +8,6 @@ use Rattle.vl_proc.specs.Ports.{Knows}
 abbrev pub module_in : Scope → Module
 module_in s = module_of s.module.now
 
--- its declarations have no fault, and its signals are those of the ports
+-- its declarations have no fault, its names are those of the ports, and so are its signals
 abbrev pub IsKnown : Scope → Type 0
-IsKnown s = Knows (module_in s) s.signals.now
+IsKnown s = Knows (module_in s) s.names.now s.signals.now

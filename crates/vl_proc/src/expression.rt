@@ -13,6 +13,7 @@ use crate::builder::Nodes;
 use crate::names::Scope;
 use bit_ops::numbers::extend;
 use dt_core::fault::NoMemory;
+use dt_core::text::Text;
 use flat_ir::design::{Node, Role};
 use vl_tree::tree::{Expr, Operand};
 
@@ -75,7 +76,7 @@ fn operand_width(scope: &Scope, a: &Operand) -> u32
     ensures range { (1 ≤ result) × (result ≤ 128) }
 {
     match a {
-        Operand::Name(name) => scope.signal(name.bytes()).width,
+        Operand::Name(name) => scope.signal(name).width,
         Operand::Number(l) => l.width,
     }
 }
@@ -154,7 +155,7 @@ fn operand(
     ensures { let m = module_in scope.now in IfOk result (λ k. Makes m nodes.old nodes.new k (λ row state. (meant.operand_meaning (context m row state) (view.operand a.now)).at width signed)) }
 {
     match a {
-        Operand::Name(name) => read(nodes, scope, name.bytes()),
+        Operand::Name(name) => read(nodes, scope, name),
         Operand::Number(l) => {
             let sign = l.signed && signed;
             nodes.add(Node::Constant(extend(l.value, l.width, width, sign)))
@@ -163,7 +164,7 @@ fn operand(
 }
 
 /// The node of a name's value.
-pub fn read(nodes: &mut Nodes, scope: &Scope, name: &[u8]) -> Result<u32, NoMemory>
+pub fn read(nodes: &mut Nodes, scope: &Scope, name: &Text) -> Result<u32, NoMemory>
     requires known { IsKnown scope.now }
     requires sound { is_read (module_in scope.now) name.now ≡ true }
     ensures { let m = module_in scope.now in IfOk result (λ k. Makes m nodes.old nodes.new k (λ row state. meant.value_at (val m row (by_names m state)) name.now)) }

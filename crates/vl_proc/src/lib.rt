@@ -1,6 +1,7 @@
 //! Lowers the clocked block of a module to actions over nodes: the module's numbered design.
 //!
-//! Below: `vl_tree` (the tree), `vl_meaning` (what it means), `flat_ir` (the design), `bit_ops` (numbers at a context's width).
+//! Below: `vl_tree` (the tree), `vl_meaning` (what it means), `vl_scope` (the numbers of names), `flat_ir` (the design), `bit_ops`
+//! (numbers at a context's width).
 //! Above: `vl_front`, which reads the tree. Promise: the design of a sound module stands for the module.
 //! `specs/Ports` says what ports become, `specs/Lowers` what a piece of lowering adds.
 //! Not said: that memory is enough; more nodes than 2^32 are want of memory.
@@ -30,6 +31,7 @@ use flat_ir::flat::{Flat, FlatDraft};
 use names::Scope;
 use std::alloc::Global;
 use table::Table;
+use vl_scope::scope;
 use vl_tree::tree::Module;
 
 /// The numbered design that stands for a module.
@@ -38,8 +40,10 @@ pub fn lower(alloc: Global, top: &Module) -> Result<Flat, NoMemory>
     ensures { IfOk result (λ f. StandsFor f (module_of top.now)) }
 {
     let table = Table::new(alloc, &top.ports, top.clock.bytes())?;
+    let names = scope::Scope::of_ports(alloc, &top.ports)?;
     let scope = Scope {
         module: top,
+        names: &names,
         signals: &table.signals,
     };
     let built = clocked_block(alloc, &scope)?;

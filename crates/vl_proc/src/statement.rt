@@ -61,7 +61,7 @@ fn statement(
                 None => Ok(()),
             }
         }
-        Stmt::Assign(name, value) => assign(to, scope, name.bytes(), value, condition),
+        Stmt::Assign(name, value) => assign(to, scope, name, value, condition),
         Stmt::Display(format, shown) => display(alloc, to, scope, format.bytes(), shown, condition),
         Stmt::Stop(line) => to.act(condition, Deed::Stop(*line)),
     }
@@ -96,7 +96,7 @@ fn branches(
 fn assign(
     to: &mut Builder,
     scope: &Scope,
-    target: &[u8],
+    target: &Text,
     value: &Expr,
     condition: u32,
 ) -> Result<(), NoMemory>
@@ -142,7 +142,7 @@ fn argument(nodes: &mut Nodes, scope: &Scope, shown: &Option<Text>) -> Result<Op
     ensures { let m = module_in scope.now in IfOk result (λ node. Shows m nodes.old nodes.new node shown.now) }
 {
     match shown {
-        Some(name) => Ok(Some(expression::read(nodes, scope, name.bytes())?)),
+        Some(name) => Ok(Some(expression::read(nodes, scope, name)?)),
         None => Ok(None),
     }
 }

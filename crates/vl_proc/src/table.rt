@@ -5,14 +5,14 @@ ghost use Rattle.std.specs.List.{list_all};
 ghost use Rattle.vl_tree.specs.View as view;
 ghost use Rattle.vl_meaning.specs.Faults.{is_narrow};
 ghost use Rattle.vl_meaning.specs.Objects as objects;
-ghost use Rattle.vl_proc.specs.Ports.{IsTable, own_width, role_of, signal_of};
+ghost use Rattle.vl_proc.specs.Ports.{IsTable, kind_of, own_width, role_of, signal_of};
 
 use crate::lists::append;
-use crate::names::port_name;
 use dt_core::fault::NoMemory;
 use dt_core::text::Text;
-use flat_ir::design::{Role, Signal};
+use flat_ir::design::{Role, Signal, SignalKind};
 use std::alloc::Global;
+use vl_scope::scope::name_of;
 use vl_tree::tree::Port;
 
 /// The signals of ports in order, the number of data inputs among them, and the widths of the registers in bits.
@@ -49,10 +49,14 @@ impl Table {
         ensures inputs { OnOk result (self.new.inputs ≡ self.old.inputs + length (objects.data_input clock.now (view.port port.now))) }
         ensures registers { OnOk result (self.new.registers.items ≡ self.old.registers.items ++ own_width (view.port port.now)) }
     {
-        let name = Text::copied(alloc, port_name(port))?;
-        let width = port_width(port);
-        let role = self.count(port, clock)?;
-        append(&mut self.signals, Signal { name, width, role })
+        let name = Text::copied(alloc, name_of(port).bytes())?;
+        let signal = Signal {
+            name,
+            kind: port_kind(port),
+            width: port_width(port),
+            role: self.count(port, clock)?,
+        };
+        append(&mut self.signals, signal)
     }
 
     // What a port shows; it is counted.
@@ -79,6 +83,16 @@ impl Table {
                 Ok(Role::Register(register))
             }
         }
+    }
+}
+
+// What a port was declared as.
+fn port_kind(port: &Port) -> SignalKind
+    ensures { result ≡ kind_of (view.port port.now) }
+{
+    match port {
+        Port::Input(_) => SignalKind::Wire,
+        Port::Output(_, _, _) => SignalKind::Reg,
     }
 }
 

@@ -20,7 +20,7 @@ close-requires c =
     subst (λ (x : Text). IsTable x m.ports table.signals.items table.inputs table.registers.items) c.bytes.ensures
     (subst (λ (ps : List port_code.Port). IsTable c.bytes.result.now (map port ps) table.signals.items table.inputs table.registers.items) c.deref.ensures.value c.in_ok-table.ensures) in
     let b : IsBuilt m c.into_list.result.items actions = subst (λ (ns : List Node). IsBuilt m ns actions) (sym c.into_list.ensures) c.in_ok-built.ensures in
-    design_fits m c.in_ok-copied.field-0 table.signals.items table.inputs table.registers.items c.into_list.result.items actions t b
+    design_fits m c.in_ok-copied.field-0 table.signals.items table.inputs table.registers.items c.into_list.result.items actions (declared_of m c.requires) t b
 
 pub returns : goal.returns
 returns c =

@@ -8,6 +8,7 @@ invariant-rows g l = record {
   far : Far l.fn.run.flat (input_names l.fn.run.flat.signals) (g.S.Source.left l.fn.source) (g.S.Source.left l.source) l.reader l.run;
   live : IsTrue l.reader.live;
   flat : l.run.flat ≡ l.fn.run.flat;
+  period : l.run.window.period ≡ l.fn.run.window.period;
   later : g.S.Source.faults l.fn.source ≤ g.S.Source.faults l.source;
 }
 

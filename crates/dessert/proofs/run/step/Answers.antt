@@ -1,17 +1,20 @@
-use Rattle.std.proofs.Common.{◌≡◌, [], refl, sym, ◌∙◌}
-use Rattle.flat_ir.specs.Fired.{fired_in, some_fired}
-use Rattle.flat_ir.specs.FlatRun.{flat_values, flat_events, flat_fired, after_actions}
+use Rattle.std.proofs.Common.{◌≡◌, [], sym, ◌∙◌, arith}
+use Rattle.flat_ir.specs.Fired.{fired_in}
+use Rattle.flat_ir.specs.FlatRun.{flat_events, flat_fired, after_actions}
 use Rattle.plain_sim.proofs.FiredLaws.{none_fired, one_fired}
 use Rattle.dessert.proofs.run.step.Goals as goal
 
 pub returns-then-fires-clause-steps : goal.returns-then-fires-clause-steps
-returns-then-fires-clause-steps c =
+returns-then-fires-clause-steps g c =
     let s = c.settle.ensures in
     let e : fired_in [] (flat_events c.settle.new.self.values c.settle.new.self.flat.actions) ≡ flat_fired c.args.sim.now.flat c.args.row.now c.args.sim.now.state = λ i. fired_in [] (flat_events (s.values i) (s.flat i).actions) in
-    (refl, c.in_ok-fired.ensures ∙ e, λ none. one_fired [] (flat_events c.settle.new.self.values c.settle.new.self.flat.actions) (sym c.fires.ensures ∙ c.if-fires.true) (e ∙ none))
+    (s.cycle, c.cycle.ensures ∙ s.cycle, c.in_ok-fired.ensures ∙ e, λ none. one_fired [] (flat_events c.settle.new.self.values c.settle.new.self.flat.actions) (sym c.fires.ensures ∙ c.if-fires.true) (e ∙ none))
 
 pub returns-clause-steps : goal.returns-clause-steps
-returns-clause-steps c =
+returns-clause-steps g c =
     let s = c.settle.ensures in
-    let e : fired_in [] (flat_events c.settle.new.self.values c.settle.new.self.flat.actions) ≡ flat_fired c.args.sim.now.flat c.args.row.now c.args.sim.now.state = λ i. fired_in [] (flat_events (s.values i) (s.flat i).actions) in
-    (c.advance.ensures.state ∙ (λ i. after_actions (s.values i) (s.flat i).actions (s.state i)), sym e ∙ none_fired [] (flat_events c.settle.new.self.values c.settle.new.self.flat.actions) (sym c.fires.ensures ∙ c.if-fires.false))
+    let e : fired_in [] (flat_events c.settle.new.self.values c.settle.new.self.flat.actions) ≡ flat_fired c.args.sim.now.flat c.args.row.now c.args.sim.now.state = λ i. fired_in [] (flat_events (s.values i) (s.flat i).actions) in (
+      c.advance.ensures.state ∙ (λ i. after_actions (s.values i) (s.flat i).actions (s.state i)),
+      omega (arith, c.advance.ensures.cycle, s.cycle),
+      sym e ∙ none_fired [] (flat_events c.settle.new.self.values c.settle.new.self.flat.actions) (sym c.fires.ensures ∙ c.if-fires.false),
+    )

@@ -1,5 +1,4 @@
-use Rattle.std.proofs.Common.{◌≡◌}
 use Rattle.plain_sim.proofs.counter.counts_where_enabled.Given as goal
 
-abbrev pub invariant-loop-row : goal.invariant-loop-row
-invariant-loop-row g l = l.sim.flat.inputs ≡ 2
+abbrev pub ghosts-counts_by_rows : goal.ghosts-counts_by_rows
+ghosts-counts_by_rows g a = record { name = a.blank.name; parts = a.blank.parts }

@@ -1,5 +1,4 @@
-use Rattle.std.proofs.Common.{◌≡◌}
 use Rattle.plain_sim.proofs.counter.fires_at_nine.Given as goal
 
-abbrev pub invariant-loop : goal.invariant-loop
-invariant-loop g l = l.sim.flat.inputs ≡ 2
+abbrev pub ghosts-stops_at_nine : goal.ghosts-stops_at_nine
+ghosts-stops_at_nine g a = record { name = a.blank.name; parts = a.blank.parts }

@@ -12,16 +12,20 @@ none_there {A} xs k x none at =
     let less : k < length xs = slice_get_within xs k x at in
     omega arith
 
-role_fits : (n : ℕ) (signals : List Signal) → All (λ s. RoleFits n 0 s.role) signals → (k : ℕ) (x : Signal) → slice_get signals k ≡ Some x → RoleFits n 0 x.role
-role_fits n signals all k x at =
-    subst (λ s. RoleFits n 0 s.role) (get_or_from_slice_get signals k x x at) (All-get_or (λ s. RoleFits n 0 s.role) signals k x (slice_get_within signals k x at) all)
+-- a signal shows the clock or one of n inputs, and has one bit
+abbrev is_bit : ℕ → Signal → Type 0
+is_bit n s = RoleFits n 0 s.role × (s.width ≡ 1)
 
-well_formed : (f : Flat) → f.registers ≡ [] → f.nodes ≡ [] → f.actions ≡ [] → All (λ s. RoleFits f.inputs 0 s.role) f.signals → IsWellFormed f
+each_bit : (n : ℕ) (signals : List Signal) → All (is_bit n) signals → (k : ℕ) (x : Signal) → slice_get signals k ≡ Some x → is_bit n x
+each_bit n signals all k x at = subst (is_bit n) (get_or_from_slice_get signals k x x at) (All-get_or (is_bit n) signals k x (slice_get_within signals k x at) all)
+
+well_formed : (f : Flat) → f.registers ≡ [] → f.nodes ≡ [] → f.actions ≡ [] → All (is_bit f.inputs) f.signals → IsWellFormed f
 well_formed f registers nodes actions all = record {
   nodes = λ k x at. absurd (none_there f.nodes k x nodes at);
   conditions = λ k x at. absurd (none_there f.actions k x actions at);
   deeds = λ k x at. absurd (none_there f.actions k x actions at);
-  signals = λ k x at. subst (λ (r : List ℕ). RoleFits f.inputs (length r) x.role) (sym registers) (role_fits f.inputs f.signals all k x at);
+  signals = λ k x at. subst (λ (r : List ℕ). RoleFits f.inputs (length r) x.role) (sym registers) (each_bit f.inputs f.signals all k x at).0;
+  widths = λ k x at. let one : x.width ≡ 1 = (each_bit f.inputs f.signals all k x at).1 in (omega (arith, one), omega (arith, one));
 }
 
 pub close-requires : goal.close-requires

@@ -1,4 +1,4 @@
-use Rattle.std.proofs.Common.{◌≡◌, ◌∙◌, ap, sym, Bool, ◌&&◌}
+use Rattle.std.proofs.Common.{◌≡◌, ◌∙◌, ap, Bool, ◌&&◌}
 use Rattle.bit_ops.specs.Operators.{extend}
 use Rattle.flat_ir.specs.declared.design.Node.TheVariants as n
 use Rattle.vl_tree.specs.declared.tree.Operand.TheVariants as o
@@ -14,8 +14,7 @@ use Rattle.vl_proc.proofs.expression.operand.Goals.{then-l, else-l}
 pub returns-in-Name : goal.returns-in-Name
 returns-in-Name c =
     let m : Module = module_of c.args.scope.now.module.now in
-    let is : c.args.a.now ≡ o.Name c.bytes.result.now = c.in-Name.is ∙ ap o.Name (sym c.bytes.ensures) in
-    rw is (operand_name m c.bytes.result.now c.args.width c.args.signed c.args.nodes.now c.read.new.nodes c.read.result c.requires.known.declared (rw is at c.requires.sound) (rw is at c.requires.wide) c.read.ensures)
+    rw c.in-Name.is (operand_name m c.in-Name.name c.args.width c.args.signed c.args.nodes.now c.read.new.nodes c.read.result c.requires.known.declared (rw c.in-Name.is at c.requires.sound) (rw c.in-Name.is at c.requires.wide) c.read.ensures)
 
 pub returns-after-l : goal.returns-after-l
 returns-after-l c =

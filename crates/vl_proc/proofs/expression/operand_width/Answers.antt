@@ -1,7 +1,5 @@
-use Rattle.std.proofs.Common.{◌∙◌, ap}
 use Rattle.vl_tree.specs.View.{module_of}
 use Rattle.vl_tree.specs.Tree.{Module}
-use Rattle.vl_meaning.specs.Objects.{width_of}
 use Rattle.vl_proc.proofs.Ports.{found_width}
 use Rattle.vl_proc.proofs.Sees.{found_range, narrow_of}
 use Rattle.vl_proc.proofs.expression.operand_width.Goals as goal
@@ -9,9 +7,9 @@ use Rattle.vl_proc.proofs.expression.operand_width.Goals as goal
 pub returns-in-Name-clause-value : goal.returns-in-Name-clause-value
 returns-in-Name-clause-value c =
     let m : Module = module_of c.args.scope.now.module.now in
-    rw c.in-Name.is (found_width m.clock 0 0 m.ports c.bytes.result.now c.signal.result.now c.signal.ensures ∙ ap (width_of m.ports) c.bytes.ensures)
+    rw c.in-Name.is (found_width m.clock 0 0 m.ports c.in-Name.name c.signal.result.now c.signal.ensures)
 
 pub returns-in-Name-clause-range : goal.returns-in-Name-clause-range
 returns-in-Name-clause-range c =
     let m : Module = module_of c.args.scope.now.module.now in
-    found_range m.clock 0 0 m.ports c.bytes.result.now c.signal.result.now (narrow_of m c.requires.known.declared) c.signal.ensures
+    found_range m.clock 0 0 m.ports c.in-Name.name c.signal.result.now (narrow_of m c.requires.known.declared) c.signal.ensures

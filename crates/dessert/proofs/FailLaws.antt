@@ -1,0 +1,107 @@
+-- The window of a first failure: it is among the rows that were kept, and its waveform is that of all rows.
+use Rattle.std.proofs.Common.{◌≡◌, ℕ, zero, suc, ◌+◌, ◌-◌, ◌<◌, ◌≤◌, List, [], ◌∷◌, ◌++◌, length, map, refl, sym, ap, subst, ◌∙◌, arith, length-append, inl, inr}
+use Rattle.std.specs.Prelude.{Option, Some, Result, slice_index_or}
+use Rattle.std.specs.Io.KnownBytes.{Appends, Keeps}
+use Rattle.std.proofs.Math.ListN.{get_or-append}
+use Rattle.dt_core.specs.Causes.{Rose, AppendsPart}
+use Rattle.flat_ir.specs.FlatRun.{Flat, flat_state, flat_next}
+use Rattle.flat_ir.specs.Shown.{flat_scope, flat_shown}
+use Rattle.vcd_text.specs.Vcd.{vcd_text}
+use Rattle.dessert.specs.Report.{stop_of, failure_text, write_failed_text}
+use Rattle.dessert.specs.Answer.{Status, failure, writing, memory}
+use Rattle.dessert.specs.Words.{Job}
+use Rattle.dessert.specs.Outcome.{from_on, window_start}
+use Rattle.dessert.specs.Progress.{Failure, Window, Progress}
+use Rattle.dessert.specs.Kept.{Holds}
+use Rattle.dessert.specs.Ran.{KeepsLast, RanTo}
+use Rattle.vcd_text.specs.declared.fault.VcdFault.{VcdFault}
+use Rattle.dessert.specs.Again.{flat_shown_at, wave_until, Waves}
+use Rattle.dessert.specs.Writing.{sinks, Wrote, Reported, Delivered}
+use Rattle.dessert.specs.Settles.{out_by, text_by, ended_by, Settles}
+
+-- the same numbers, one behind another
+pub from_on_same : (g h : ℕ → List ℕ) (k n : ℕ) → ((t : ℕ) → k ≤ t → t < k + n → g t ≡ h t) → from_on g k n ≡ from_on h k n
+from_on_same g h k zero s = refl
+from_on_same g h k (suc n) s =
+    (λ i. s k (omega arith) (omega arith) i ∷ from_on_same g h (suc k) n (λ t a b. s t (omega (arith, a)) (omega (arith, b))) i)
+
+module _ (f : Flat) (seen behind : List (List ℕ)) where
+  -- rows behind change nothing of what was
+  front_state : (t : ℕ) → t ≤ length seen → flat_state f (seen ++ behind) t ≡ flat_state f seen t
+  front_state zero h = refl
+  front_state (suc t) h =
+      let a = get_or-append seen behind [] t (omega (arith, h)) in
+      let b = front_state t (omega (arith, h)) in
+      ap (λ (r : List ℕ). flat_next f r (flat_state f (seen ++ behind) t)) a ∙ ap (flat_next f (slice_index_or seen t [])) b
+
+  front_shown : (t : ℕ) → t < length seen → flat_shown_at f seen t ≡ flat_shown_at f (seen ++ behind) t
+  front_shown t h =
+      let a = get_or-append seen behind [] t h in
+      let b = front_state t (omega (arith, h)) in
+      sym (ap (λ (r : List ℕ). flat_shown f r (flat_state f (seen ++ behind) t)) a ∙ ap (flat_shown f (slice_index_or seen t [])) b)
+
+  front_wave : (first end : ℕ) → end ≤ length seen → wave_until f seen first end ≡ wave_until f (seen ++ behind) first end
+  front_wave first end h =
+      ap (vcd_text (flat_scope f) first) (from_on_same (flat_shown_at f seen) (flat_shown_at f (seen ++ behind)) first (end - first) (λ t a b. front_shown t (omega (arith, a, b, h))))
+
+-- the kept rows reach back to the window's first cycle
+reaches : (f : Flat) (seen : List (List ℕ)) (w : Window) (c lag : ℕ) → Holds f seen w → length seen ≡ suc c → lag < w.period → w.end ≤ (c - lag) + (w.older_count + w.newer_count)
+reaches f seen w c lag h n p =
+    let l : length seen ≡ length h.front + (length h.olds + length h.news) =
+    ap (λ (r : List (List ℕ)). length r) h.whole ∙ length-append h.front (h.olds ++ h.news) ∙ ap (λ (k : ℕ). length h.front + k) (length-append h.olds h.news) in
+    elim h.full [
+      | inl z ↦ omega (arith, z, l, h.end, h.older_count, h.newer_count)
+      | inr z ↦ omega (arith, z, l, n, p, h.end, h.older_count, h.newer_count)
+    ]
+
+module _ (f : Flat) (rows : List (List ℕ)) (p : Progress) (x : Failure) (is : p.failure ≡ Some x) (r : RanTo f rows p) where
+  abbrev pub kept : KeepsLast f rows p.cycle p.window (Some x)
+  kept = subst (KeepsLast f rows p.cycle p.window) is r.ran.kept
+
+  -- the rows up to the failure
+  abbrev pub seen : List (List ℕ)
+  seen = kept.1
+
+  pub holds : Holds f seen p.window
+  holds = kept.5
+
+  pub reach : (lag : ℕ) → lag < p.window.period → p.window.end ≤ window_start lag x.cycle + (p.window.older_count + p.window.newer_count)
+  reach lag h = reaches f seen p.window x.cycle lag holds kept.4 h
+
+  pub within : (lag : ℕ) → window_start lag x.cycle < length seen
+  within lag = omega (arith, kept.4)
+
+  wave_is : (first : ℕ) → wave_until f seen first (length seen) ≡ wave_until f rows first (suc x.cycle)
+  wave_is first =
+      front_wave f seen kept.2 first (length seen) (omega arith) ∙ ap (λ (y : List (List ℕ)). wave_until f y first (length seen)) (sym kept.3) ∙ ap (wave_until f rows first) kept.4
+
+  -- what was promised of these rows and this window
+  pub told : (lag first : ℕ) (g : Flat) (v : Window) (o o' : Option (List ℕ)) (n n' : ℕ) (result : Result (Unit {0}) VcdFault) → g ≡ f → v ≡ p.window → first ≡ window_start lag x.cycle → lag < p.window.period
+      → ((rs : List (List ℕ)) → Holds g rs v → v.end ≤ first + (v.older_count + v.newer_count) → first < length rs → Waves o o' n n' (wave_until g rs first (length rs)) result)
+      → Waves o o' n n' (wave_until f seen (window_start lag x.cycle) (length seen)) result
+  told lag first g v o o' n n' result a b c enough waves =
+      subst (λ (z : Flat × Window × ℕ). (rs : List (List ℕ)) → Holds z.0 rs z.1 → z.1.end ≤ z.2 + (z.1.older_count + z.1.newer_count) → z.2 < length rs → Waves o o' n n' (wave_until z.0 rs z.2 (length rs)) result)
+      (λ i. (a i, b i, c i)) waves seen holds (reach lag enough) (within lag)
+
+  -- the rows are kept, whatever names the design and the window have
+  pub kept_by : (g : Flat) (v : Window) → g ≡ f → v ≡ p.window → (rs : List (List ℕ)) × Holds g rs v
+  kept_by g v a b = (seen, subst (λ (z : Flat × Window). Holds z.0 seen z.1) (λ i. (sym a i, sym b i)) holds)
+
+  module _ (j : Job) (result : Status) (o o' h h' : Option (List ℕ)) (w w' n n' : ℕ) where
+    settles_by : Delivered (wave_until f rows (window_start j.lag x.cycle) (suc x.cycle)) (failure_text x.cycle (map (stop_of f.name j.file) x.fired) (window_start j.lag x.cycle)) failure result (sinks o w h n) (sinks o' w' h' n')
+        → Settles j f rows p result (sinks o w h n) (sinks o' w' h' n')
+    settles_by d = subst (λ (y : Option Failure). Delivered (out_by j.lag f rows y) (text_by j f.name p.cycles y) (ended_by y) result (sinks o w h n) (sinks o' w' h' n')) (sym is) d
+
+    -- the waveform was written, and then the report
+    pub both_written : Appends o o' (wave_until f seen (window_start j.lag x.cycle) (length seen))
+        → Reported (failure_text x.cycle (map (stop_of f.name j.file) x.fired) (window_start j.lag x.cycle)) failure result h h' n n' → Settles j f rows p result (sinks o w h n) (sinks o' w' h' n')
+    both_written a t = settles_by (inl (subst (Appends o o') (wave_is (window_start j.lag x.cycle)) a, t))
+
+    -- a front of the waveform was written, and then the line that says so
+    pub wave_failed : Rose w w' → AppendsPart o o' (wave_until f seen (window_start j.lag x.cycle) (length seen)) → Wrote write_failed_text writing result h h' n n'
+        → Settles j f rows p result (sinks o w h n) (sinks o' w' h' n')
+    wave_failed c a t = settles_by (inr (inl (c, subst (AppendsPart o o') (wave_is (window_start j.lag x.cycle)) a, t)))
+
+    -- a front of the waveform was written, and there was no memory for more
+    pub wave_stopped : AppendsPart o o' (wave_until f seen (window_start j.lag x.cycle) (length seen)) → result ≡ memory → Keeps h h' → Settles j f rows p result (sinks o w h n) (sinks o' w' h' n')
+    wave_stopped a e k = settles_by (inr (inr (e, subst (AppendsPart o o') (wave_is (window_start j.lag x.cycle)) a, k)))

@@ -1,0 +1,6 @@
+pub mod ReaderLaws
+pub mod CodeLaws
+pub mod Pushes
+pub mod Cycles
+mod VcdExamples
+pub mod TextLaws

@@ -1,0 +1,5 @@
+pub mod Vcd
+pub mod Reader
+pub mod Writer
+pub mod Writes
+pub mod Cycle

@@ -1,0 +1,26 @@
+//! The waveform's text: what a design shows in the cycles of a window, as a value change dump.
+//!
+//! Below: `dt_core`, `dt_io`, `bit_ops`, `flat_ir`, `plain_sim`. Above: `dessert` writes the window of a failure.
+//! Promise: header and cycles, one behind another, are `specs/Vcd`'s text of the design's scope and the valuations; of a call that
+//! fails a front stands in the sink, and the writer isn't live any more. A reader recovers each value from the lines.
+//! Not said: that memory is enough; how long a cycle takes.
+#![tactic(auto)]
+
+ghost use Rattle.vcd_text.specs.Reader.{Recovers, CodesDiffer, BitsTell};
+
+mod cycle;
+pub mod fault;
+mod header;
+mod lines;
+pub mod progress;
+#[cfg(test)]
+mod tests;
+pub mod writer;
+
+/// A reader of the lines who keeps the last value of each code knows what each variable shows in each cycle of the window; codes
+/// and bits can be read back.
+pub fn reader_law()
+    ensures recovers { Recovers }
+    ensures codes_differ { CodesDiffer }
+    ensures bits_tell { BitsTell }
+{}
