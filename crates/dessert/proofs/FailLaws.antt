@@ -17,6 +17,7 @@ use Rattle.dessert.specs.Ran.{KeepsLast, RanTo}
 use Rattle.vcd_text.specs.declared.fault.VcdFault.{VcdFault}
 use Rattle.dessert.specs.Again.{flat_shown_at, wave_until, Waves}
 use Rattle.dessert.specs.Writing.{sinks, Wrote, Reported, Delivered}
+use Rattle.dessert.proofs.KeptLaws.{lengths}
 use Rattle.dessert.specs.Settles.{out_by, text_by, ended_by, Settles}
 
 -- the same numbers, one behind another
@@ -47,8 +48,7 @@ module _ (f : Flat) (seen behind : List (List ℕ)) where
 -- the kept rows reach back to the window's first cycle
 reaches : (f : Flat) (seen : List (List ℕ)) (w : Window) (c lag : ℕ) → Holds f seen w → length seen ≡ suc c → lag < w.period → w.end ≤ (c - lag) + (w.older_count + w.newer_count)
 reaches f seen w c lag h n p =
-    let l : length seen ≡ length h.front + (length h.olds + length h.news) =
-    ap (λ (r : List (List ℕ)). length r) h.whole ∙ length-append h.front (h.olds ++ h.news) ∙ ap (λ (k : ℕ). length h.front + k) (length-append h.olds h.news) in
+    let l = lengths seen h.front h.olds h.news h.whole in
     elim h.full [
       | inl z ↦ omega (arith, z, l, h.end, h.older_count, h.newer_count)
       | inr z ↦ omega (arith, z, l, n, p, h.end, h.older_count, h.newer_count)

@@ -35,11 +35,12 @@ none_kept f w first e b o n m u k s = record {
   full = inl refl;
 }
 
-module _ (f : Flat) (rows : List (List ℕ)) (w v : Window) (h : Holds f rows w) where
-  -- how long the parts are together
-  lengths : length rows ≡ length h.front + (length h.olds + length h.news)
-  lengths = ap (λ (r : List (List ℕ)). length r) h.whole ∙ length-append h.front (h.olds ++ h.news) ∙ ap (λ (k : ℕ). length h.front + k) (length-append h.olds h.news)
+-- how long the parts are together
+pub lengths : (rows front olds news : List (List ℕ)) → rows ≡ front ++ (olds ++ news) → length rows ≡ length front + (length olds + length news)
+lengths rows front olds news whole =
+    ap (λ (r : List (List ℕ)). length r) whole ∙ length-append front (olds ++ news) ∙ ap (λ (k : ℕ). length front + k) (length-append olds news)
 
+module _ (f : Flat) (rows : List (List ℕ)) (w v : Window) (h : Holds f rows w) where
   -- the newer part, which is full, becomes the older one
   pub turned : (state : List ℕ) → w.period ≤ w.newer_count → v.period ≡ w.period → v.end ≡ w.end → v.base ≡ w.middle → v.older ≡ w.newer → v.older_count ≡ w.newer_count
       → v.middle ≡ state → v.newer ≡ [] → v.newer_count ≡ 0 → state ≡ flat_state f rows (length rows) → Holds f rows v
@@ -55,7 +56,7 @@ module _ (f : Flat) (rows : List (List ℕ)) (w v : Window) (h : Holds f rows w)
         older = o ∙ h.newer;
         older_count = n ∙ h.newer_count;
         older_long = h.newer_long;
-        middle = m ∙ s ∙ ap (flat_state f rows) (omega (arith, lengths, l));
+        middle = m ∙ s ∙ ap (flat_state f rows) (omega (arith, lengths rows h.front h.olds h.news h.whole, l));
         newer = u;
         newer_count = k;
         newer_long = tt;
@@ -75,11 +76,11 @@ module _ (f : Flat) (rows : List (List ℕ)) (w v : Window) (h : Holds f rows w)
         news = h.news ++ row ∷ [];
         whole = ap (λ (r : List (List ℕ)). r ++ row ∷ []) h.whole ∙ append_assoc h.front (h.olds ++ h.news) (row ∷ []) ∙ ap (λ (r : List (List ℕ)). h.front ++ r) (append_assoc h.olds h.news (row ∷ []));
         end = omega (arith, e, h.end, g);
-        base = b ∙ h.base ∙ sym (state_front f rows row (length h.front) (omega (arith, lengths)));
+        base = b ∙ h.base ∙ sym (state_front f rows row (length h.front) (omega (arith, lengths rows h.front h.olds h.news h.whole)));
         older = o ∙ h.older;
         older_count = n ∙ h.older_count;
         older_long = h.older_long;
-        middle = m ∙ h.middle ∙ sym (state_front f rows row (length h.front + length h.olds) (omega (arith, lengths)));
+        middle = m ∙ h.middle ∙ sym (state_front f rows row (length h.front + length h.olds) (omega (arith, lengths rows h.front h.olds h.news h.whole)));
         newer = u ∙ ap (λ (x : List ℕ). x ++ row) h.newer ∙ concat_more h.news row;
         newer_count = omega (arith, k, h.newer_count, l);
         newer_long = long_more f.inputs h.news row h.newer_long wide;

@@ -6,7 +6,7 @@ use Rattle.std.proofs.lemmas.Bool.Decides.{nat_tests}
 use Rattle.std.specs.List.{concat}
 use Rattle.std.specs.Io.KnownBytes.{Appends}
 use Rattle.std.proofs.KnownBytes.{Appends-trans}
-use Rattle.std.proofs.Math.Seq.{take-append_seam, drop-append_seam, drop-cons}
+use Rattle.std.proofs.Math.Seq.{drop-append_seam, drop-cons}
 use Rattle.std.proofs.Math.ListN.{get_or-append}
 use Rattle.std.proofs.lemmas.List.{get_or-append-add}
 use Rattle.dt_core.specs.Causes.{AppendsPart}
@@ -19,7 +19,9 @@ use Rattle.vcd_text.specs.Writer.{Writer, HasWritten}
 use Rattle.vcd_text.specs.Writes.{WritesText, WritesCycle}
 use Rattle.vcd_text.specs.declared.fault.VcdFault.{VcdFault}
 use Rattle.vcd_text.specs.declared.fault.VcdFault.TheVariants as fault
+use Rattle.vcd_text.proofs.Pushes.{front_whole}
 use Rattle.vcd_text.proofs.TextLaws.{one_more}
+use Rattle.dessert.proofs.KeptLaws.{lengths}
 use Rattle.dessert.specs.Kept.{AreLong, Holds}
 use Rattle.dessert.specs.Progress.{Window}
 use Rattle.dessert.specs.Outcome.{from_on}
@@ -28,10 +30,7 @@ use Rattle.dessert.specs.Again.{flat_shown_at, shown_until, wave_until, Stands, 
 order : (a b : ℕ) → (a ≤ b) ⊎ (b < a)
 order a b = elim (cases_Bool (nat_le a b)) [ inl e ↦ inl (grind (arith, nat_tests, e)) | inr e ↦ inr (grind (arith, nat_tests, e)) ]
 
--- what stands in front of others
-pub front_whole : (xs ys : List ℕ) (n : ℕ) → length xs ≡ n → take n (xs ++ ys) ≡ xs
-front_whole xs ys n e = ap (λ (k : ℕ). take k (xs ++ ys)) (sym e) ∙ take-append_seam xs ys
-
+-- what stands behind others
 pub rest_whole : (xs ys : List ℕ) (n : ℕ) → length xs ≡ n → drop n (xs ++ ys) ≡ ys
 rest_whole xs ys n e = ap (λ (k : ℕ). drop k (xs ++ ys)) (sym e) ∙ drop-append_seam xs ys
 
@@ -223,19 +222,15 @@ module _ (f : Flat) (rows : List (List ℕ)) (first : ℕ) where
       by fault.Memory t = subst (AppendsPart held out) (sym header_is) t.part
 
   module _ (w : Window) (h : Holds f rows w) where
-    -- how long the parts are together
-    lengths : length rows ≡ length h.front + (length h.olds + length h.news)
-    lengths = ap (λ (r : List (List ℕ)). length r) h.whole ∙ length-append h.front (h.olds ++ h.news) ∙ ap (λ (k : ℕ). length h.front + k) (length-append h.olds h.news)
-
     -- the kept rows begin with the window, or before it
     pub begins : (start : ℕ) (held out : Option (List ℕ)) (sim : Moment) (v : Writer) → start + (w.older_count + w.newer_count) ≡ w.end → w.end ≤ first + (w.older_count + w.newer_count)
         → sim.flat ≡ f → sim.cycle ≡ start → sim.state ≡ w.base → HasWritten v [] → Appends held out (vcd_text (flat_scope f) first [])
         → Stands f rows first (length h.front) held out sim v
     begins start held out sim v s reach a b c written text =
-        let early = early_is (length h.front) (omega (arith, s, reach, h.end, h.older_count, h.newer_count, lengths)) in
+        let early = early_is (length h.front) (omega (arith, s, reach, h.end, h.older_count, h.newer_count, lengths rows h.front h.olds h.news h.whole)) in
         record {
           flat = a;
-          cycle_is = omega (arith, b, s, h.end, h.older_count, h.newer_count, lengths);
+          cycle_is = omega (arith, b, s, h.end, h.older_count, h.newer_count, lengths rows h.front h.olds h.news h.whole);
           state = c ∙ h.base;
           written = subst (HasWritten v) (sym early) written;
           held_is = subst (λ (x : List (List ℕ)). Appends held out (vcd_text (flat_scope f) first x)) (sym early) text;
@@ -245,14 +240,14 @@ module _ (f : Flat) (rows : List (List ℕ)) (first : ℕ) where
     pub older_fails : (held out : Option (List ℕ)) (before' before now : ℕ) (e : VcdFault) → Waves held out before now (wave_until f rows first (length h.front + length h.olds)) (Err e) → before' ≤ before
         → Waves held out before' now (wave_until f rows first (length rows)) (Err e)
     older_fails held out before' before now e t l =
-        let k : length h.front + length h.olds + length h.news ≡ length rows = omega (arith, lengths) in
+        let k : length h.front + length h.olds + length h.news ≡ length rows = omega (arith, lengths rows h.front h.olds h.news h.whole) in
         subst (λ (x : ℕ). Waves held out before' now (wave_until f rows first x) (Err e)) k (waves_more (length h.front + length h.olds) (length h.news) before' before now held out e t l)
 
     -- behind the newer rows the waveform is whole
     pub ends : (held out : Option (List ℕ)) (before' before now : ℕ) (sim : Moment) (v : Writer) (result : Result (Unit {0}) VcdFault)
         → Goes f rows first (length (h.front ++ h.olds) + length h.news) held out before now sim v result → before' ≤ before → Waves held out before' now (wave_until f rows first (length rows)) result
     ends held out before' before now sim v result t l =
-        let k : length (h.front ++ h.olds) + length h.news ≡ length rows = omega (arith, lengths, length-append h.front h.olds) in
+        let k : length (h.front ++ h.olds) + length h.news ≡ length rows = omega (arith, lengths rows h.front h.olds h.news h.whole, length-append h.front h.olds) in
         subst (λ (x : ℕ). Waves held out before' now (wave_until f rows first x) result) k (by result t)
       where
         by : (result : Result (Unit {0}) VcdFault) → Goes f rows first (length (h.front ++ h.olds) + length h.news) held out before now sim v result

@@ -1,6 +1,7 @@
 use Rattle.std.proofs.Common.{drop, length, sym, ◌∙◌, rules}
 use Rattle.std.proofs.lemmas.Result.{err_from_is_err_and}
-use Rattle.dessert.proofs.ReplayLaws.{front_whole, settled, advanced}
+use Rattle.vcd_text.proofs.Pushes.{front_whole}
+use Rattle.dessert.proofs.ReplayLaws.{settled, advanced}
 use Rattle.dessert.proofs.replay.Replay.cycle.Goals as goal
 
 pub returns-in_err-show-clause-goes : goal.returns-in_err-show-clause-goes
