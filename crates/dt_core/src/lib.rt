@@ -1,6 +1,6 @@
 //! Ground: bit vectors, texts, rows, places, and the limits of what is read.
 //!
-//! Below: std alone. Above: every crate.
+//! Below: `itoa` (decimal numbers). Above: every crate.
 //! Promise: a `Bits` is a width of 1 to 128 and a number below 2^width; a `Text` is its list of bytes, a `Row` its list of bit vectors.
 //! A row of n values that have b bits together keeps n bytes for their widths and b / 8 bytes, rounded up, for their bits.
 //! Clauses see a row as a list of plain records (`specs/BitVectors`); `specs/Packing` says how they stand in bytes.
@@ -8,6 +8,7 @@
 //! Not said: that memory is enough.
 #![tactic(auto)]
 
+pub mod append;
 pub mod bits;
 pub mod fault;
 pub mod limits;

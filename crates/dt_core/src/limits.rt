@@ -3,6 +3,12 @@
 /// Bytes of one file.
 pub const MAX_FILE: u64 = 4_194_304;
 
+/// Files of a design.
+pub const MAX_FILES: usize = 16;
+
+/// Bytes of the text of a design once comments, directives and macros are replaced.
+pub const MAX_CLEAN: u32 = 16_777_216;
+
 /// Tokens of a design.
 pub const MAX_TOKENS: u32 = 1_048_576;
 

@@ -4,7 +4,8 @@ ghost use Rattle.std.specs.Prelude.{◌≡◌, ◌++◌, OnOk, map};
 ghost use Rattle.flat_ir.specs.Shown.{kind_of, variable_of, flat_scope};
 ghost use Rattle.vcd_text.specs.Vcd.{kind_word, declared_text, variable_line, variable_lines, scope_text, header_text};
 
-use crate::lines::{push, push_code, push_number};
+use crate::lines::push_code;
+use dt_core::append::{push, push_number};
 use dt_core::fault::NoMemory;
 use flat_ir::design::{Signal, SignalKind};
 use flat_ir::flat::Flat;

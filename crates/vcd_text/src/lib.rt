@@ -1,6 +1,6 @@
 //! The waveform's text: what a design shows in the cycles of a window, as a value change dump.
 //!
-//! Below: `dt_core`, `dt_io`, `bit_ops`, `flat_ir`, `plain_sim`. Above: `dessert` writes the window of a failure.
+//! Below: `dt_core`, `dt_io`, `flat_ir`, `plain_sim`. Above: `dessert` writes the window of a failure.
 //! Promise: header and cycles, one behind another, are `specs/Vcd`'s text of the design's scope and the valuations; of a call that
 //! fails a front stands in the sink, and the writer isn't live any more. A reader recovers each value from the lines.
 //! Not said: that memory is enough; how long a cycle takes.

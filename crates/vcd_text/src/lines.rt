@@ -3,18 +3,8 @@
 ghost use Rattle.std.specs.Prelude.{◌≡◌, ◌≤◌, ◌++◌, ◌∷◌, [], OnOk, codes, decimal, ◌==◌, if◌then◌else◌};
 ghost use Rattle.vcd_text.specs.Vcd.{code, bits, value_text, line_text, time};
 
+use dt_core::append::{push, push_number};
 use dt_core::fault::NoMemory;
-use itoa::Buffer;
-
-// Appends a piece.
-pub(crate) fn push(text: &mut Vec<u8>, piece: &[u8]) -> Result<(), NoMemory>
-    ensures { OnOk result (text.new.items ≡ text.old.items ++ piece.now) }
-{
-    match text.extend_from_slice(piece) {
-        Ok(()) => Ok(()),
-        Err(_) => Err(NoMemory),
-    }
-}
 
 // Appends a byte.
 fn push_byte(text: &mut Vec<u8>, byte: u8) -> Result<(), NoMemory>
@@ -24,13 +14,6 @@ fn push_byte(text: &mut Vec<u8>, byte: u8) -> Result<(), NoMemory>
         Ok(()) => Ok(()),
         Err(_) => Err(NoMemory),
     }
-}
-
-// Appends the digits of a number.
-pub(crate) fn push_number(text: &mut Vec<u8>, number: u128) -> Result<(), NoMemory>
-    ensures { OnOk result (text.new.items ≡ text.old.items ++ decimal number) }
-{
-    push(text, Buffer::new().format(number).as_bytes())
 }
 
 // Appends the code of a variable's number. It calls itself once for each character.

@@ -8,11 +8,9 @@ ghost use Rattle.vl_pre.specs.Reading.{Writes, piece_at};
 use crate::cursor::{Cursor, skip_block, skip_line};
 use crate::fault::PreFault;
 use crate::pieces::{First, is_allowed, kept_length};
+use dt_core::limits::MAX_CLEAN;
 use std::alloc::Global;
 use std::marker::Model;
-
-/// The most bytes of a clean text.
-pub const MAX_CLEAN: u32 = 16_777_216;
 
 /// Bytes without comments and directives, each with the line of the text on which it stood, from 1. A byte of a macro's body has the
 /// line of the use. A contract sees the list of these.
