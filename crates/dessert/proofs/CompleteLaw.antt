@@ -1,6 +1,6 @@
 -- Where all is well outside, the answer is 0, 1 or 9.
 use Rattle.std.proofs.Common.{◌≡◌, ℕ, ◌≤◌, List, [], ◌∷◌, ◌++◌, length, Bool, true, false, IsTrue, refl, sym, ap, subst, ◌∙◌, inl, inr, ◌⊎◌, arith, append-nil}
-use Rattle.std.specs.Prelude.{Option, Some, None}
+use Rattle.std.specs.Prelude.{Option, Some, None, Ok, Err}
 use Rattle.std.specs.Io.KnownBytes.{Consumes, IsAtEnd}
 use Rattle.vl_tree.specs.Tree.{Module}
 use Rattle.vl_meaning.specs.Objects.{data_inputs}
@@ -9,8 +9,9 @@ use Rattle.stim.specs.Stimulus.{IsStimulus}
 use Rattle.dt_io.specs.Files.{IsLong}
 use Rattle.dessert.specs.Answer.{Outside, Status, quiet, failure, usage, design, input, file, reading, writing, reporting, memory, number, allowed, bad, refused, Loaded, Answers}
 use Rattle.dessert.specs.Words.{Job, words_of}
-use Rattle.dessert.specs.Outcome.{layers, design_text, OneDesign, OneRefusal, Judges}
-use Rattle.dessert.specs.Complete.{AllWell}
+use Rattle.dessert.specs.Sources.{design_text}
+use Rattle.dessert.specs.Outcome.{layers, Design, AreDesign, AreRefused, Judges}
+use Rattle.dessert.specs.Complete.{Hold, AllWell}
 
 -- all that was left was taken
 took_whole : (l n : Option (List ℕ)) (whole bytes : List ℕ) → l ≡ Some whole → Consumes l n bytes → IsAtEnd n → bytes ≡ whole
@@ -30,51 +31,65 @@ not_long : (x : Option (List ℕ)) (bytes : List ℕ) → x ≡ Some bytes → l
 not_long None bytes e l h = h
 not_long (Some xs) bytes e l h = let s : xs ≡ bytes = cc in let k = ap (λ (b : List ℕ). length b) s in absurd (omega (arith, k))
 
+-- files that were loaded are those that are there
+same_files : (content : List ℕ → Option (List ℕ)) (names files held : List (List ℕ)) → Hold content names held → Loaded content true names files → files ≡ held
+same_files content [] [] [] h l = refl
+same_files content [] [] (g ∷ held) h l = absurd h
+same_files content [] (f ∷ files) held h l = absurd l
+same_files content (name ∷ names) [] held h l = absurd l
+same_files content (name ∷ names) (f ∷ files) [] h l = absurd h
+same_files content (name ∷ names) (f ∷ files) (g ∷ held) h l =
+    let s : Some f ≡ Some g = sym (l.0 refl) ∙ h.0 in
+    let e : f ≡ g = cc in
+    let r = same_files content names files held h.2 l.2 in
+    λ i. e i ∷ r i
+
+-- none of the files that are there is too long
+none_long : (content : List ℕ → Option (List ℕ)) (before : List (List ℕ)) (name : List ℕ) (after held : List (List ℕ)) → Hold content (before ++ name ∷ after) held → IsLong (content name) 4194304 → ⊥
+none_long content [] name after [] h l = absurd h
+none_long content [] name after (g ∷ held) h l = not_long (content name) g h.0 h.1 l
+none_long content (b ∷ before) name after [] h l = absurd h
+none_long content (b ∷ before) name after (g ∷ held) h l = none_long content before name after held h.2 l
+
 module _ (content : List ℕ → Option (List ℕ)) (words : List (List ℕ)) (old new : Outside) (w : AllWell content true words old new) where
   same_job : (other : Job) → words_of words ≡ allowed other → other ≡ w.job
   same_job other e = let s : allowed other ≡ allowed w.job = sym e ∙ w.asked in cc
 
-  same_name : (other : Job) → words_of words ≡ allowed other → other.file ≡ w.job.file
-  same_name other e = ap (λ (j : Job). j.file) (same_job other e)
-
-  -- the one file that was loaded is the one that is there
-  same_file : (other f : List ℕ) → other ≡ w.job.file → content other ≡ Some f → f ≡ w.file
-  same_file other f e l = let s : Some f ≡ Some w.file = sym l ∙ ap content e ∙ w.content_is in cc
+  -- the files that a job loads hold the module's text
+  is_module : (j : Job) (files : List (List ℕ)) → words_of words ≡ allowed j → Loaded content true j.files files → IsOneCounter (design_text files) w.the_module
+  is_module j files e l =
+      let h : Hold content j.files w.files = subst (λ (x : Job). Hold content x.files w.files) (sym (same_job j e)) w.hold in
+      subst (λ (x : List (List ℕ)). IsOneCounter (design_text x) w.the_module) (sym (same_files content j.files files w.files h l)) w.design
 
   -- an accepted design is the module
-  the_design : (j : Job) (files : List (List ℕ)) (m : Module) → words_of words ≡ allowed j → Loaded content true (j.file ∷ []) files → OneDesign files m → m ≡ w.the_module
-  the_design j [] m e l d = absurd l
-  the_design j (f ∷ g ∷ files) m e l d = absurd d
-  the_design j (f ∷ []) m e l d =
-      let s = same_file j.file f (same_name j e) (l.0 refl) in sym (d.only w.the_module (subst (λ (x : List ℕ). IsOneCounter (design_text x) w.the_module) (sym s) w.design))
+  the_top : (j : Job) (files : List (List ℕ)) (d : Design) → words_of words ≡ allowed j → Loaded content true j.files files → AreDesign j files d → d.top ≡ w.the_module
+  the_top j files d e l a = sym (a.is_design.only w.the_module (is_module j files e l))
 
-  no_refusal : (j : Job) (files : List (List ℕ)) (h : List ℕ) → words_of words ≡ allowed j → Loaded content true (j.file ∷ []) files → OneRefusal files h → ⊥
-  no_refusal j [] h e l d = absurd l
-  no_refusal j (f ∷ g ∷ files) h e l d = absurd d
-  no_refusal j (f ∷ []) h e l d =
-      let s = same_file j.file f (same_name j e) (l.0 refl) in d.0 w.the_module (subst (λ (x : List ℕ). IsOneCounter (design_text x) w.the_module) (sym s) w.design)
+  no_refusal : (j : Job) (files : List (List ℕ)) (h : List ℕ) → words_of words ≡ allowed j → Loaded content true j.files files → AreRefused j files h → ⊥
+  no_refusal j files h e l (inl f) =
+      let i = is_module j files e l in let s : Ok i.tokens ≡ Err f.0 = sym i.is_spelled ∙ f.1 in absurd cc
+  no_refusal j files h e l (inr n) = n.0.none w.the_module (is_module j files e l)
 
   -- the stimulus isn't refused
-  no_short : (name : Job) (h bytes : List ℕ) (m : Module) → m ≡ w.the_module → Consumes old.left new.left bytes → IsAtEnd new.left → Judges name m bytes (refused true h) → ⊥
-  no_short name h bytes m e c a j =
+  no_short : (name : Job) (h bytes : List ℕ) (d : Design) → d.top ≡ w.the_module → Consumes old.left new.left bytes → IsAtEnd new.left → Judges name d bytes (refused true h) → ⊥
+  no_short name h bytes d e c a j =
       let t = took_whole old.left new.left w.bytes bytes w.left c a in
       j.1 (w.rows, subst (λ (x : Module). IsStimulus (data_inputs x) w.rows bytes) (sym e) (subst (IsStimulus (data_inputs w.the_module) w.rows) (sym t) w.stimulus))
 
-  no_other : (name : Job) (h bytes : List ℕ) (m : Module) → m ≡ w.the_module → Consumes old.left new.left bytes → Judges name m bytes (refused false h) → ⊥
-  no_other name h bytes m e c j =
+  no_other : (name : Job) (h bytes : List ℕ) (d : Design) → d.top ≡ w.the_module → Consumes old.left new.left bytes → Judges name d bytes (refused false h) → ⊥
+  no_other name h bytes d e c j =
       let t = took_front old.left new.left w.bytes bytes w.left c in
       j.0 (t.0, w.rows, subst (λ (x : Module). IsStimulus (data_inputs x) w.rows (bytes ++ t.0)) (sym e) (subst (IsStimulus (data_inputs w.the_module) w.rows) t.1 w.stimulus))
 
-  no_input : (h : List ℕ) (short : Bool) (name : Job) (bytes : List ℕ) (m : Module) → m ≡ w.the_module → Consumes old.left new.left bytes → (IsTrue short → IsAtEnd new.left)
-      → Judges name m bytes (refused short h) → ⊥
-  no_input h true name bytes m e c a j = no_short name h bytes m e c (a refl) j
-  no_input h false name bytes m e c a j = no_other name h bytes m e c j
+  no_input : (h : List ℕ) (short : Bool) (name : Job) (bytes : List ℕ) (d : Design) → d.top ≡ w.the_module → Consumes old.left new.left bytes → (IsTrue short → IsAtEnd new.left)
+      → Judges name d bytes (refused short h) → ⊥
+  no_input h true name bytes d e c a j = no_short name h bytes d e c (a refl) j
+  no_input h false name bytes d e c a j = no_other name h bytes d e c j
 
-  no_file : (before : List (List ℕ)) (name : List ℕ) (after : List (List ℕ)) (job : Job) → words_of words ≡ allowed job → job.file ∷ [] ≡ before ++ name ∷ after → IsLong (content name) 4194304 → ⊥
-  no_file [] name after job e n l =
-      let s : job.file ≡ name = cc in not_long (content name) w.file (ap content (sym s ∙ same_name job e) ∙ w.content_is) w.within l
-  no_file (b ∷ []) name after job e n l = absurd cc
-  no_file (b ∷ c ∷ before) name after job e n l = absurd cc
+  no_file : (before : List (List ℕ)) (name : List ℕ) (after : List (List ℕ)) (job : Job) → words_of words ≡ allowed job → job.files ≡ before ++ name ∷ after → IsLong (content name) 4194304 → ⊥
+  no_file before name after job e n l =
+      let h : Hold content job.files w.files = subst (λ (x : Job). Hold content x.files w.files) (sym (same_job job e)) w.hold in
+      none_long content before name after w.files (subst (λ (x : List (List ℕ)). Hold content x w.files) n h) l
 
   pub ends : (s : Status) → Answers layers content true words old new s → (number s ≡ 0) ⊎ ((number s ≡ 1) ⊎ (number s ≡ 9))
   ends quiet a = inl refl
@@ -83,7 +98,7 @@ module _ (content : List ℕ → Option (List ℕ)) (words : List (List ℕ)) (o
   ends design a = let b = a.2.1 in absurd (no_refusal b.job b.files a.1 b.words_are b.loaded b.refused)
   ends input a =
       let b = a.2.1 in
-      absurd (no_input a.1 b.short b.job b.bytes b.the_design (the_design b.job b.ready.files b.the_design b.ready.words_are b.ready.loaded b.ready.accepted) b.taken b.at_end b.judged)
+      absurd (no_input a.1 b.short b.job b.bytes b.the_design (the_top b.job b.ready.files b.the_design b.ready.words_are b.ready.loaded b.ready.accepted) b.taken b.at_end b.judged)
   ends file a = let b = a.2.1 in elim b.cause [ inl c ↦ absurd (w.loads c.0) | inr c ↦ absurd (no_file b.before b.name b.after b.job b.words_are b.names_are (c.0 refl)) ]
   ends reading a = absurd (w.reads a.2.1.rose)
   ends writing a = absurd (w.writes a.2.rose)

@@ -9,7 +9,7 @@ use Rattle.flat_ir.specs.Shown.{flat_scope, flat_shown}
 use Rattle.vcd_text.specs.Vcd.{vcd_text}
 use Rattle.dessert.specs.Report.{stop_of, failure_text, write_failed_text}
 use Rattle.dessert.specs.Answer.{Status, failure, writing, memory}
-use Rattle.dessert.specs.Words.{Job}
+use Rattle.dessert.specs.Sources.{Origins}
 use Rattle.dessert.specs.Outcome.{from_on, window_start}
 use Rattle.dessert.specs.Progress.{Failure, Window, Progress}
 use Rattle.dessert.specs.Kept.{Holds}
@@ -87,21 +87,21 @@ module _ (f : Flat) (rows : List (List ℕ)) (p : Progress) (x : Failure) (is : 
   pub kept_by : (g : Flat) (v : Window) → g ≡ f → v ≡ p.window → (rs : List (List ℕ)) × Holds g rs v
   kept_by g v a b = (seen, subst (λ (z : Flat × Window). Holds z.0 seen z.1) (λ i. (sym a i, sym b i)) holds)
 
-  module _ (j : Job) (result : Status) (o o' h h' : Option (List ℕ)) (w w' n n' : ℕ) where
-    settles_by : Delivered (wave_until f rows (window_start j.lag x.cycle) (suc x.cycle)) (failure_text x.cycle (map (stop_of f.name j.file) x.fired) (window_start j.lag x.cycle)) failure result (sinks o w h n) (sinks o' w' h' n')
-        → Settles j f rows p result (sinks o w h n) (sinks o' w' h' n')
-    settles_by d = subst (λ (y : Option Failure). Delivered (out_by j.lag f rows y) (text_by j f.name p.cycles y) (ended_by y) result (sinks o w h n) (sinks o' w' h' n')) (sym is) d
+  module _ (lag : ℕ) (origins : Origins) (result : Status) (o o' h h' : Option (List ℕ)) (w w' n n' : ℕ) where
+    settles_by : Delivered (wave_until f rows (window_start lag x.cycle) (suc x.cycle)) (failure_text x.cycle (map (stop_of f.name origins) x.fired) (window_start lag x.cycle)) failure result (sinks o w h n) (sinks o' w' h' n')
+        → Settles lag origins f rows p result (sinks o w h n) (sinks o' w' h' n')
+    settles_by d = subst (λ (y : Option Failure). Delivered (out_by lag f rows y) (text_by lag f.name origins p.cycles y) (ended_by y) result (sinks o w h n) (sinks o' w' h' n')) (sym is) d
 
     -- the waveform was written, and then the report
-    pub both_written : Appends o o' (wave_until f seen (window_start j.lag x.cycle) (length seen))
-        → Reported (failure_text x.cycle (map (stop_of f.name j.file) x.fired) (window_start j.lag x.cycle)) failure result h h' n n' → Settles j f rows p result (sinks o w h n) (sinks o' w' h' n')
-    both_written a t = settles_by (inl (subst (Appends o o') (wave_is (window_start j.lag x.cycle)) a, t))
+    pub both_written : Appends o o' (wave_until f seen (window_start lag x.cycle) (length seen))
+        → Reported (failure_text x.cycle (map (stop_of f.name origins) x.fired) (window_start lag x.cycle)) failure result h h' n n' → Settles lag origins f rows p result (sinks o w h n) (sinks o' w' h' n')
+    both_written a t = settles_by (inl (subst (Appends o o') (wave_is (window_start lag x.cycle)) a, t))
 
     -- a front of the waveform was written, and then the line that says so
-    pub wave_failed : Rose w w' → AppendsPart o o' (wave_until f seen (window_start j.lag x.cycle) (length seen)) → Wrote write_failed_text writing result h h' n n'
-        → Settles j f rows p result (sinks o w h n) (sinks o' w' h' n')
-    wave_failed c a t = settles_by (inr (inl (c, subst (AppendsPart o o') (wave_is (window_start j.lag x.cycle)) a, t)))
+    pub wave_failed : Rose w w' → AppendsPart o o' (wave_until f seen (window_start lag x.cycle) (length seen)) → Wrote write_failed_text writing result h h' n n'
+        → Settles lag origins f rows p result (sinks o w h n) (sinks o' w' h' n')
+    wave_failed c a t = settles_by (inr (inl (c, subst (AppendsPart o o') (wave_is (window_start lag x.cycle)) a, t)))
 
     -- a front of the waveform was written, and there was no memory for more
-    pub wave_stopped : AppendsPart o o' (wave_until f seen (window_start j.lag x.cycle) (length seen)) → result ≡ memory → Keeps h h' → Settles j f rows p result (sinks o w h n) (sinks o' w' h' n')
-    wave_stopped a e k = settles_by (inr (inr (e, subst (AppendsPart o o') (wave_is (window_start j.lag x.cycle)) a, k)))
+    pub wave_stopped : AppendsPart o o' (wave_until f seen (window_start lag x.cycle) (length seen)) → result ≡ memory → Keeps h h' → Settles lag origins f rows p result (sinks o w h n) (sinks o' w' h' n')
+    wave_stopped a e k = settles_by (inr (inr (e, subst (AppendsPart o o') (wave_is (window_start lag x.cycle)) a, k)))

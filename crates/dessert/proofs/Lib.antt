@@ -2,6 +2,7 @@ pub mod Cases
 pub mod CompleteLaw
 pub mod RanLaws
 pub mod KeptLaws
+pub mod LoadLaws
 pub mod RowsLaws
 pub mod StateLaws
 pub mod ReplayLaws

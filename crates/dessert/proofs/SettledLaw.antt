@@ -23,6 +23,7 @@ use Rattle.stim.specs.Stimulus.{IsStimulus}
 use Rattle.dessert.specs.Report.{stop_of, failure_text}
 use Rattle.dessert.specs.Answer.{Outside, Status, done, Ready, Answers}
 use Rattle.dessert.specs.Words.{Job}
+use Rattle.dessert.specs.Sources.{Origins}
 use Rattle.dessert.specs.Outcome.{layers, from_on, window_start, output_of, report_of, Judges}
 use Rattle.dessert.specs.Progress.{Failure, Progress}
 use Rattle.dessert.specs.Ran.{fired_at, Found, RanTo}
@@ -64,9 +65,11 @@ module _ (f : Flat) (m : Module) (rows : List (List ℕ)) (s : StandsFor f m) (f
       least_some (λ t. not (length (fires m rows t) == 0)) (length rows) x.cycle h.0 (loud (fires m rows x.cycle) (λ e. h.2 (sym (fires_are x.cycle h.0) ∙ e)))
       (λ k i. ap (λ (l : List Fired). not (length l == 0)) (fires_are k (omega (arith, i, h.0)) ∙ h.3 k i))
 
-  text_is : (j : Job) (state : List ℕ) (o : Option Failure) → Found f rows state o → text_by j m.name (length rows) o ≡ report_of j m rows (cycle_by o)
-  text_is j state None h = refl
-  text_is j state (Some x) h = ap (λ (l : List Fired). failure_text x.cycle (map (stop_of m.name j.file) l) (window_start j.lag x.cycle)) (h.1 ∙ sym (fires_are x.cycle h.0))
+  text_is : (lag : ℕ) (origins : Origins) (state : List ℕ) (o : Option Failure) → Found f rows state o
+      → text_by lag m.name origins (length rows) o ≡ report_of lag (record { top = m; origins = origins }) rows (cycle_by o)
+  text_is lag origins state None h = refl
+  text_is lag origins state (Some x) h =
+      ap (λ (l : List Fired). failure_text x.cycle (map (stop_of m.name origins) l) (window_start lag x.cycle)) (h.1 ∙ sym (fires_are x.cycle h.0))
 
   -- what is shown in a cycle is what the module shows
   shown_are : (t : ℕ) → t < length rows → flat_shown_at f rows t ≡ shown_at m rows t
@@ -82,11 +85,16 @@ module _ (f : Flat) (m : Module) (rows : List (List ℕ)) (s : StandsFor f m) (f
       ∙ ap (λ (c : Scope). vcd_text c first (from_on (shown_at m rows) first (suc (x.cycle - first)))) s.scope
 
   -- what comes of the bytes are the texts of the run
-  pub judged : (j : Job) (bytes : List ℕ) (state : List ℕ) (o : Option Failure) → IsStimulus (data_inputs m) rows bytes → Found f rows state o
-      → Judges j m bytes (done (fired_by o) (out_by j.lag f rows o) (text_by j m.name (length rows) o))
-  judged j bytes state o i h =
-      let e = first_by state o h in
-      (rows, i, fired_is o ∙ ap (λ (c : Option ℕ). is_some c) e, out_is j.lag state o h ∙ ap (output_of j.lag m rows) e, text_is j state o h ∙ ap (report_of j m rows) e)
+  pub judged : (j : Job) (origins : Origins) (bytes : List ℕ) (state : List ℕ) (o : Option Failure) → IsStimulus (data_inputs m) rows bytes → Found f rows state o
+      → Judges j (record { top = m; origins = origins }) bytes (done (fired_by o) (out_by j.lag f rows o) (text_by j.lag m.name origins (length rows) o))
+  judged j origins bytes state o i h =
+      let e = first_by state o h in (
+        rows,
+        i,
+        fired_is o ∙ ap (λ (c : Option ℕ). is_some c) e,
+        out_is j.lag state o h ∙ ap (output_of j.lag m rows) e,
+        text_is j.lag origins state o h ∙ ap (report_of j.lag (record { top = m; origins = origins }) rows) e,
+      )
 
 -- rows of a stimulus fit the inputs of a module without static fault
 pub rows_fit : (m : Module) (rows : List (List ℕ)) (bytes : List ℕ) → is_sound m ≡ true → IsStimulus (data_inputs m) rows bytes → AllFit m rows
@@ -98,13 +106,13 @@ module _ (content : List ℕ → Option (List ℕ)) (told : Bool) (words : List 
   status_is (Some x) = refl
 
   -- the texts of a run over the whole input were written, in part or not at all
-  pub settled : (j : Job) (f : Flat) (m : Module) (rows : List (List ℕ)) (bytes : List ℕ) (p : Progress) (result : Status)
-      → StandsFor f m → is_sound m ≡ true → Ready layers content told words old new j m → Consumes old.left new.left bytes → IsAtEnd new.left
-      → IsStimulus (data_inputs m) rows bytes → RanTo f rows p → Settles j f rows p result (sinks_of old) (sinks_of new) → Answers layers content told words old new result
-  settled j f m rows bytes p result s sound r c e i ran d =
-      let is = judged f m rows s (rows_fit m rows bytes sound i) j bytes p.state p.failure i ran.ran.found in
-      let t : text_by j f.name p.cycles p.failure ≡ text_by j m.name (length rows) p.failure = (λ x. text_by j (s.name x) (ran.count x) p.failure) in
-      delivered_answers layers content told words old new (fired_by p.failure) (out_by j.lag f rows p.failure) (text_by j m.name (length rows) p.failure) result
-      (record { job = j; the_design = m; bytes = bytes; ready = r; taken = c; at_end = e; judged = is })
+  pub settled : (j : Job) (f : Flat) (m : Module) (origins : Origins) (rows : List (List ℕ)) (bytes : List ℕ) (p : Progress) (result : Status)
+      → StandsFor f m → is_sound m ≡ true → Ready layers content told words old new j (record { top = m; origins = origins }) → Consumes old.left new.left bytes → IsAtEnd new.left
+      → IsStimulus (data_inputs m) rows bytes → RanTo f rows p → Settles j.lag origins f rows p result (sinks_of old) (sinks_of new) → Answers layers content told words old new result
+  settled j f m origins rows bytes p result s sound r c e i ran d =
+      let is = judged f m rows s (rows_fit m rows bytes sound i) j origins bytes p.state p.failure i ran.ran.found in
+      let t : text_by j.lag f.name origins p.cycles p.failure ≡ text_by j.lag m.name origins (length rows) p.failure = (λ x. text_by j.lag (s.name x) origins (ran.count x) p.failure) in
+      delivered_answers layers content told words old new (fired_by p.failure) (out_by j.lag f rows p.failure) (text_by j.lag m.name origins (length rows) p.failure) result
+      (record { job = j; the_design = record { top = m; origins = origins }; bytes = bytes; ready = r; taken = c; at_end = e; judged = is })
       (subst (λ (x : List ℕ). Delivered (out_by j.lag f rows p.failure) x (done_status (fired_by p.failure)) result (sinks_of old) (sinks_of new)) t
-      (subst (λ (x : Status). Delivered (out_by j.lag f rows p.failure) (text_by j f.name p.cycles p.failure) x result (sinks_of old) (sinks_of new)) (status_is p.failure) d))
+      (subst (λ (x : Status). Delivered (out_by j.lag f rows p.failure) (text_by j.lag f.name origins p.cycles p.failure) x result (sinks_of old) (sinks_of new)) (status_is p.failure) d))

@@ -1,40 +1,34 @@
 -- The exits of the top call, over plain values: from what a step promises to the answer.
-use Rattle.std.proofs.Common.{◌≡◌, ℕ, ◌≤◌, List, [], ◌∷◌, ◌++◌, length, Bool, true, false, IsTrue, refl, sym, ap, subst, ◌∙◌}
-use Rattle.std.specs.Prelude.{Option, Some, None, Ok, Err}
+use Rattle.std.proofs.Common.{◌≡◌, ℕ, Bool, true, false, List, map, refl, sym, ap, subst, ◌∙◌, inl, inr}
+use Rattle.std.specs.Prelude.{Option, Ok, Err}
 use Rattle.std.specs.Io.KnownBytes.{Keeps}
 use Rattle.std.proofs.KnownBytes.{Keeps-refl}
-use Rattle.dt_core.specs.Causes.{Rose}
-use Rattle.dt_io.specs.Files.{Loads, IsLong}
-use Rattle.dt_io.specs.declared.outside.LoadFault.TheVariants as l
 use Rattle.flat_ir.specs.FlatRun.{Flat}
 use Rattle.flat_ir.specs.Names.{input_names}
 use Rattle.vl_tree.specs.Tree.{Module}
 use Rattle.vl_meaning.specs.Objects.{data_inputs}
-use Rattle.vl_meaning.specs.Faults.{is_sound}
 use Rattle.vl_meaning.specs.StandsFor.{StandsFor}
+use Rattle.vl_tree.specs.declared.fault.FaultKind.{FaultKind}
+use Rattle.vl_front.specs.Spelled.{Fault, spelled}
+use Rattle.vl_front.specs.OneCounter.{IsDesign, IsNoDesign}
 use Rattle.stim.specs.Stimulus.{IsStimulus, Begins, IsWhole}
 use Rattle.stim.specs.declared.reader.StimFault.{StimFault}
 use Rattle.stim.specs.declared.reader.StimFault.TheVariants as s
 use Rattle.dessert.specs.Answer.{Outside, Status, design, input, file, reading, memory, allowed, Loaded, Ready, FileCause, Answers}
 use Rattle.dessert.specs.Words.{Job, words_of}
-use Rattle.dessert.specs.Outcome.{layers, design_text, OneDesign}
+use Rattle.dessert.specs.Sources.{design_text, line_count, spot, Origins, origins_of, spot_in}
+use Rattle.dessert.specs.Loading.{IsFront}
+use Rattle.dessert.specs.Outcome.{layers, Design}
 use Rattle.dessert.specs.Progress.{Progress}
 use Rattle.dessert.specs.Ran.{RanTo}
 use Rattle.dessert.specs.Rows.{RanAll}
 use Rattle.dessert.specs.Settles.{Settles, GivesUp, refusal_text, refusal_status}
 use Rattle.dessert.specs.Writing.{sinks_of, Wrote, Reported}
-use Rattle.dessert.specs.Report.{design_refused_text}
-use Rattle.vl_front.specs.OneCounter.{IsNoDesign}
+use Rattle.dessert.specs.Report.{fault_text, not_built_text}
 use Rattle.dessert.specs.declared.rows.RowsFault.{RowsFault}
 use Rattle.dessert.specs.declared.rows.RowsFault.TheVariants as f
 use Rattle.dessert.proofs.Cases.{plain_answers, memory_answers, reported_answers}
 use Rattle.dessert.proofs.SettledLaw.{settled}
-
--- an accepted design has no static fault
-sound_of : (files : List (List ℕ)) (m : Module) → OneDesign files m → is_sound m ≡ true
-sound_of [] m d = absurd d
-sound_of (one ∷ []) m d = d.here.sound
-sound_of (one ∷ other ∷ files) m d = absurd d
 
 module _ (content : List ℕ → Option (List ℕ)) (told : Bool) (words : List (List ℕ)) (old new : Outside) (job : Job) (asked : words_of words ≡ allowed job) where
   -- want of memory with nothing written
@@ -43,34 +37,59 @@ module _ (content : List ℕ → Option (List ℕ)) (told : Bool) (words : List 
       memory_answers layers content told words old new job asked memory refl (subst (λ (x : Option (List ℕ)). Keeps old.out x) o (Keeps-refl old.out))
       (subst (λ (x : Option (List ℕ)). Keeps old.report x) r (Keeps-refl old.report))
 
-  -- the text is no design
-  pub no_design : (bytes text : List ℕ) (result : Status) → Loaded content told (job.file ∷ []) (bytes ∷ []) → text ≡ design_text bytes → IsNoDesign text → Keeps old.left new.left → Keeps old.out new.out
-      → Wrote design_refused_text design result old.report new.report old.reports new.reports → Answers layers content told words old new result
-  no_design bytes text result loaded e none left out w =
-      plain_answers layers content told words old new design design_refused_text result
-      (refl, record { job = job; files = bytes ∷ []; words_are = asked; loaded = loaded; refused = (subst IsNoDesign e none, refl); untaken = left }) out w
+  -- the text of the files has a fault of the first two phases
+  pub faulty : (files : List (List ℕ)) (text : List ℕ) (f : Fault) (result : Status) → Loaded content told job.files files → text ≡ design_text files → spelled text ≡ Err f → Keeps old.left new.left → Keeps old.out new.out
+      → Reported (fault_text (spot_in (origins_of job.files files) f.line) f.kind) design result old.report new.report old.reports new.reports → Answers layers content told words old new result
+  faulty files text f result loaded is e left out w =
+      reported_answers layers content told words old new job asked design (fault_text (spot_in (origins_of job.files files) f.line) f.kind) result
+      (refl, record { job = job; files = files; words_are = asked; loaded = loaded; refused = inl (f, ap spelled (sym is) ∙ e, refl); untaken = left }) out w
 
-  -- the file wasn't loaded
-  pub no_file : (report : List ℕ) (result : Status) → FileCause layers content told words old new job.file report → Keeps old.left new.left → Keeps old.out new.out
+  -- the text of the files is no design
+  pub no_design : (files : List (List ℕ)) (text : List ℕ) (result : Status) → Loaded content told job.files files → text ≡ design_text files → IsNoDesign text → Keeps old.left new.left → Keeps old.out new.out
+      → Wrote not_built_text design result old.report new.report old.reports new.reports → Answers layers content told words old new result
+  no_design files text result loaded is none left out w =
+      plain_answers layers content told words old new design not_built_text result
+      (refl, record { job = job; files = files; words_are = asked; loaded = loaded; refused = inr (subst IsNoDesign is none, refl); untaken = left }) out w
+
+  -- a file wasn't loaded
+  pub no_file : (name report : List ℕ) (result : Status) → IsFront content told job.files name → FileCause layers content told words old new name report → Keeps old.left new.left → Keeps old.out new.out
       → Reported report file result old.report new.report old.reports new.reports → Answers layers content told words old new result
-  no_file report result cause left out w =
-      reported_answers layers content told words old new job asked file report result
-      (refl, record { job = job; before = []; name = job.file; after = []; files = []; words_are = asked; names_are = refl; loaded = tt; cause = cause; untaken = left }) out w
+  no_file name report result front cause left out w =
+      reported_answers layers content told words old new job asked file report result (
+        refl,
+        record {
+          job = job;
+          before = front.before;
+          name = name;
+          after = front.after;
+          files = front.files;
+          words_are = asked;
+          names_are = front.names_are;
+          loaded = front.loaded;
+          cause = cause;
+          untaken = left;
+        },
+      )
+      out w
 
-  module _ (files : List (List ℕ)) (m : Module) (flat x : Flat) (loaded : Loaded content told (job.file ∷ []) files) (one : OneDesign files m) (stands : StandsFor flat m) (same : x ≡ flat) where
-    ready : Ready layers content told words old new job m
-    ready = record { files = files; words_are = asked; loaded = loaded; accepted = one }
+  module _ (files : List (List ℕ)) (m : Module) (origins : Origins) (flat x : Flat) (loaded : Loaded content told job.files files) (is : origins ≡ origins_of job.files files)
+      (one : IsDesign (design_text files) m) (stands : StandsFor flat m) (same : x ≡ flat) where
+    abbrev the_design : Design
+    the_design = record { top = m; origins = origins }
+
+    ready : Ready layers content told words old new job the_design
+    ready = record { files = files; words_are = asked; loaded = loaded; accepted = record { is_design = one; origins = is } }
 
     names : input_names x.signals ≡ data_inputs m
     names = ap (λ (y : Flat). input_names y.signals) same ∙ stands.inputs
 
     -- the run came to the end of the rows
     pub ran_answers : (p : Progress) (result : Status) → RanAll x (input_names x.signals) old.left new.left old.reads new.reads p (Ok tt)
-        → ((rows : List (List ℕ)) → RanTo x rows p → Settles job x rows p result (sinks_of old) (sinks_of new)) → Answers layers content told words old new result
+        → ((rows : List (List ℕ)) → RanTo x rows p → Settles job.lag origins x rows p result (sinks_of old) (sinks_of new)) → Answers layers content told words old new result
     ran_answers p result r d =
-        settled content told words old new job flat m r.0 r.1 p result stands (sound_of files m one) ready r.2 r.3
+        settled content told words old new job flat m origins r.0 r.1 p result stands one.here.sound ready r.2 r.3
         (subst (λ (ns : List (List ℕ)). IsStimulus ns r.0 r.1) names r.4) (subst (λ (y : Flat). RanTo y r.0 p) same r.5)
-        (subst (λ (y : Flat). Settles job y r.0 p result (sinks_of old) (sinks_of new)) same (d r.0 r.5))
+        (subst (λ (y : Flat). Settles job.lag origins y r.0 p result (sinks_of old) (sinks_of new)) same (d r.0 r.5))
 
     -- the stimulus was refused, or its source failed
     refused_answers : (e : StimFault) (p : Progress) (result : Status) → Keeps old.out new.out → RanAll x (input_names x.signals) old.left new.left old.reads new.reads p (Err (f.Stimulus e))
@@ -80,7 +99,7 @@ module _ (content : List ℕ → Option (List ℕ)) (told : Bool) (words : List 
           refl,
           record {
             job = job;
-            the_design = m;
+            the_design = the_design;
             bytes = r.0;
             short = false;
             ready = ready;
@@ -95,7 +114,7 @@ module _ (content : List ℕ → Option (List ℕ)) (told : Bool) (words : List 
           refl,
           record {
             job = job;
-            the_design = m;
+            the_design = the_design;
             bytes = r.0;
             short = true;
             ready = ready;
@@ -110,7 +129,7 @@ module _ (content : List ℕ → Option (List ℕ)) (told : Bool) (words : List 
           refl,
           record {
             job = job;
-            the_design = m;
+            the_design = the_design;
             bytes = r.0;
             ready = ready;
             taken = r.1;
@@ -127,15 +146,13 @@ module _ (content : List ℕ → Option (List ℕ)) (told : Bool) (words : List 
     given_up (f.Stimulus e) p result kept r w = refused_answers e p result kept r w
     given_up f.Memory p result kept r w = memory_answers layers content told words old new job asked result w.0 kept w.1
 
--- what a load tells of one file
-pub loaded_one : (content : List ℕ → Option (List ℕ)) (told : Bool) (name items text bytes : List ℕ) → text ≡ items ++ bytes → items ≡ [] → length bytes ≤ 4194304
-    → (IsTrue told → content name ≡ Some bytes) → Loaded content told (name ∷ []) (text ∷ [])
-loaded_one content told name items text bytes e h n k =
-    let t : text ≡ bytes = e ∙ ap (λ (i : List ℕ). i ++ bytes) h in (λ u. k u ∙ ap (λ (b : List ℕ). Some b) (sym t), subst (λ (y : List ℕ). length y ≤ 4194304) (sym t) n, tt)
+-- the names, and the counts of their files
+pub origins_are : (o : Origins) (files : List (List ℕ)) → o.counts ≡ map line_count files → o ≡ origins_of o.names files
+origins_are o files e = λ i. record { names = o.names; counts = e i }
 
--- why a file is too long
-pub long_cause : (told : Bool) (held : Option (List ℕ)) (old new : List ℕ) (before now : ℕ) → Loads told held 4194304 old new before now (Err l.TooLong)
-    → (IsTrue told → IsLong held 4194304) × (told ≡ false → Rose before now)
-long_cause true None old new before now h = absurd h.1
-long_cause true (Some bytes) old new before now h = (λ _. h.1, λ e. absurd cc)
-long_cause false held old new before now h = (λ e. absurd cc, λ _. h.1)
+-- the line of a fault, told by its place
+pub fault_at : (o : Origins) (names : List (List ℕ)) (files : List (List ℕ)) (line l : ℕ) (name : List ℕ) (kind : FaultKind) → o.names ≡ names → o.counts ≡ map line_count files → name ≡ (spot_in o line).file
+    → l ≡ (spot_in o line).line → fault_text (spot name l) kind ≡ fault_text (spot_in (origins_of names files) line) kind
+fault_at o names files line l name kind n c f e =
+    let s : o ≡ origins_of names files = λ i. record { names = n i; counts = c i } in
+    (λ i. fault_text (record { file = f i; line = e i }) kind) ∙ ap (λ (x : Origins). fault_text (spot_in x line) kind) s

@@ -1,6 +1,9 @@
 pub mod Report
 pub mod Answer
 pub mod Words
+pub mod Named
+pub mod Sources
+pub mod Loading
 pub mod Outcome
 pub mod Writing
 pub mod Ended

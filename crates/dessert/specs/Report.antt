@@ -1,5 +1,8 @@
 -- The report's texts, one for each case, as bytes. This project's own. Every line ends with LF; parts nest to the right.
 use Rattle.flat_ir.specs.Fired.{Fired}
+use Rattle.vl_tree.specs.Fault.{name_of}
+use Rattle.vl_tree.specs.declared.fault.FaultKind.{FaultKind}
+use Rattle.dessert.specs.Sources.{Spot, Origins, spot_in}
 use Rattle.std.specs.Prelude.{ℕ, ◌==◌, if◌then◌else◌, List, [], ◌∷◌, ◌++◌, length, codes, decimal, slice_index}
 
 -- ---- a failure
@@ -24,9 +27,9 @@ place_text path file line = codes "stop in " ++ (path ++ (codes " at " ++ (file 
 abbrev pub stop_text : Stop → List ℕ
 stop_text s = place_text s.path s.file s.line ++ (s.message ++ line_end s.message)
 
--- an assertion that fired, as it is reported: in a scope of this path, in this file
-abbrev pub stop_of : List ℕ → List ℕ → Fired → Stop
-stop_of path file f = record { path = path; file = file; line = f.line; message = f.message }
+-- an assertion that fired, as it is reported: in a scope of this path, in a file of the design
+abbrev pub stop_of : List ℕ → Origins → Fired → Stop
+stop_of path o f = record { path = path; file = (spot_in o f.line).file; line = (spot_in o f.line).line; message = f.message }
 
 abbrev pub stops_text : List Stop → List ℕ
 stops_text [] = []
@@ -47,8 +50,12 @@ quiet_text cycles = codes "no failure in " ++ (decimal cycles ++ codes " cycles\
 abbrev pub usage_text : List ℕ
 usage_text = codes "usage\n"
 
-abbrev pub design_refused_text : List ℕ
-design_refused_text = codes "design: NotYetBuilt\n"
+abbrev pub not_built_text : List ℕ
+not_built_text = codes "design: NotYetBuilt\n"
+
+-- a static fault of this kind at this line of a file
+abbrev pub fault_text : Spot → FaultKind → List ℕ
+fault_text s kind = codes "design: " ++ (s.file ++ (codes ":" ++ (decimal s.line ++ (codes ": " ++ (name_of kind ++ codes "\n")))))
 
 abbrev pub stimulus_refused_text : List ℕ
 stimulus_refused_text = codes "stimulus: NotYetBuilt\n"

@@ -7,7 +7,7 @@ use Rattle.flat_ir.specs.FlatRun.{Flat}
 use Rattle.dessert.specs.Report.{stop_of, failure_text, quiet_text, stimulus_refused_text, read_failed_text}
 use Rattle.dessert.specs.Answer.{Status, quiet, failure, input, reading, memory}
 use Rattle.dessert.specs.Progress.{Failure, Progress}
-use Rattle.dessert.specs.Words.{Job}
+use Rattle.dessert.specs.Sources.{Origins}
 use Rattle.dessert.specs.Outcome.{window_start}
 use Rattle.dessert.specs.Again.{wave_until}
 use Rattle.dessert.specs.Writing.{Sinks, Wrote, Delivered}
@@ -23,13 +23,14 @@ abbrev pub out_by : ℕ → Flat → List (List ℕ) → Option Failure → List
 out_by lag f rows (Some x) = wave_until f rows (window_start lag x.cycle) (suc x.cycle)
 out_by lag f rows None = []
 
-abbrev pub text_by : Job → List ℕ → ℕ → Option Failure → List ℕ
-text_by j path cycles (Some x) = failure_text x.cycle (map (stop_of path j.file) x.fired) (window_start j.lag x.cycle)
-text_by j path cycles None = quiet_text cycles
+abbrev pub text_by : ℕ → List ℕ → Origins → ℕ → Option Failure → List ℕ
+text_by lag path o cycles (Some x) = failure_text x.cycle (map (stop_of path o) x.fired) (window_start lag x.cycle)
+text_by lag path o cycles None = quiet_text cycles
 
 -- they were written
-abbrev pub Settles : Job → Flat → List (List ℕ) → Progress → Status → Sinks → Sinks → Type 0
-Settles j f rows p result old new = Delivered (out_by j.lag f rows p.failure) (text_by j f.name p.cycles p.failure) (ended_by p.failure) result old new
+abbrev pub Settles : ℕ → Origins → Flat → List (List ℕ) → Progress → Status → Sinks → Sinks → Type 0
+Settles lag o f rows p result old new =
+    Delivered (out_by lag f rows p.failure) (text_by lag f.name o p.cycles p.failure) (ended_by p.failure) result old new
 
 -- the status and the report of a stimulus that was refused, or whose source failed
 abbrev pub refusal_status : StimFault → Status

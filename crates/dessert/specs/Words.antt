@@ -1,16 +1,16 @@
--- The words of a command line: `sim`, at most one setting of the lag, and a file. This project's own.
-use Rattle.std.specs.Prelude.{ℕ, ◌*◌, ◌+◌, ◌-◌, ◌==◌, Bool, true, false, not, ◌&&◌, ◌||◌, nat_le, List, [], ◌∷◌, length, fold, take, drop, bytes_eq, codes, Option, Some, None}
+-- The words of a command line: `sim`, at most one setting of the lag, and the files of a design. This project's own.
+use Rattle.std.specs.Prelude.{ℕ, ◌*◌, ◌+◌, ◌-◌, ◌==◌, Bool, true, false, not, ◌&&◌, ◌||◌, if◌then◌else◌, nat_le, List, [], ◌∷◌, length, fold, take, drop, bytes_eq, codes, Option, Some, None}
 use Rattle.std.specs.List.{list_any, list_all}
 use Rattle.std.specs.Char.{is_ascii_digit}
 use Rattle.dessert.specs.Answer.{Words, allowed, bad}
 
--- what words ask for: how many cycles before the failure the window begins, and the file of the design
+-- what words ask for: how many cycles before the failure the window begins, and the files of the design
 pub record Job : Type 0 where
   pub lag : ℕ
-  pub file : List ℕ
+  pub files : List (List ℕ)
 
-abbrev pub job : ℕ → List ℕ → Job
-job lag file = record { lag = lag; file = file }
+abbrev pub job : ℕ → List (List ℕ) → Job
+job lag files = record { lag = lag; files = files }
 
 -- the lag where none is set
 abbrev pub default_lag : ℕ
@@ -44,14 +44,21 @@ lag_of word = some_when (bytes_eq (take 4 word) (codes "lag=") && is_lag (drop 4
 abbrev pub is_file_word : List ℕ → Bool
 is_file_word word = not (length word == 0) && not (list_any (λ b. b == 61) word)
 
--- the job of words that stand in order, with their lag if they have one
-abbrev pub asked : Bool → Option ℕ → List ℕ → Words Job
-asked false lag file = bad
-asked true None file = bad
-asked true (Some lag) file = allowed (job lag file)
+-- 1 to 16 file words
+abbrev pub are_file_words : List (List ℕ) → Bool
+are_file_words words = nat_le 1 (length words) && (nat_le (length words) 16 && list_all is_file_word words)
 
--- `sim`, at most one setting of the lag, and one file word
+-- the job of a lag, if there is one, and file words
+abbrev pub asked : Option ℕ → List (List ℕ) → Words Job
+asked None files = bad
+asked (Some lag) files = if are_file_words files then allowed (job lag files) else bad
+
+-- a setting of the lag and file words, or file words alone
+abbrev pub settings_of : List (List ℕ) → Words Job
+settings_of [] = bad
+settings_of (first ∷ more) = if is_file_word first then asked (Some default_lag) (first ∷ more) else asked (lag_of first) more
+
+-- `sim`, at most one setting of the lag, and 1 to 16 file words
 abbrev pub words_of : List (List ℕ) → Words Job
-words_of (command ∷ file ∷ []) = asked (bytes_eq command (codes "sim") && is_file_word file) (Some default_lag) file
-words_of (command ∷ setting ∷ file ∷ []) = asked (bytes_eq command (codes "sim") && is_file_word file) (lag_of setting) file
-words_of _ = bad
+words_of [] = bad
+words_of (command ∷ words) = if bytes_eq command (codes "sim") then settings_of words else bad

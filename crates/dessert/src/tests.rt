@@ -3,6 +3,7 @@
 ghost use Rattle.std.specs.Prelude.{◌≡◌, ◌<◌, ◌≤◌};
 
 mod failed;
+mod sources;
 mod windows;
 
 use crate::quiet_main;
@@ -37,7 +38,7 @@ const HIT: &[u8] = b"failure at cycle 9\nstop in cnt at cnt.v:9\nr hit 9\nwindow
 #[derive(Clone, Copy)]
 struct Call<'a> {
     words: &'a [&'a str],
-    file: &'a [u8],
+    files: &'a [(&'a str, &'a [u8])],
     stimulus: &'a [u8],
     load: u32,
     read: u32,
@@ -67,13 +68,15 @@ fn one(alloc: Global, n: u32) -> Result<Vec<u32>, Fail> {
     Ok(all)
 }
 
-// The file `cnt.v` with these bytes.
-fn one_file(alloc: Global, file: &[u8], load: u32) -> Result<MemFiles, Fail> {
+// The files of these names with these bytes.
+fn files_of(alloc: Global, contents: &[(&str, &[u8])], load: u32) -> Result<MemFiles, Fail> {
     let mut files = Vec::new(alloc);
-    files.push((
-        Text::of_bytes(bytes_of(alloc, b"cnt.v")?),
-        Text::of_bytes(bytes_of(alloc, file)?),
-    ))?;
+    for (name, content) in contents.iter() {
+        files.push((
+            Text::of_bytes(bytes_of(alloc, name.as_bytes())?),
+            Text::of_bytes(bytes_of(alloc, content)?),
+        ))?;
+    }
     Ok(MemFiles::new(files, one(alloc, load)?))
 }
 
@@ -86,7 +89,7 @@ fn ask_counted<L: Ledger>(alloc: Global, call: Call, blank: Blank) -> Result<Cam
     requires name { blank.name ≡ L.name }
     requires parts { (blank.parts ≡ L.parts) × (0 < blank.parts) }
 {
-    let mut files = one_file(alloc, call.file, call.load)?;
+    let mut files = files_of(alloc, call.files, call.load)?;
     let mut source = MemSource::new(bytes_of(alloc, call.stimulus)?, 16, one(alloc, call.read)?);
     let Ok(mut out) = MemSink::new(alloc, 16384, 16, one(alloc, call.out)?) else {
         return Err("no memory".into());
@@ -123,7 +126,7 @@ fn counted(alloc: Global, rows: u32) -> Result<Vec<u8>, Fail> {
 fn counter_call<'a>(stimulus: &'a [u8]) -> Call<'a> {
     Call {
         words: &["sim", "cnt.v"],
-        file: COUNTER,
+        files: &[("cnt.v", COUNTER)],
         stimulus,
         load: 0,
         read: 0,
@@ -150,29 +153,37 @@ fn the_counter_fails_first_in_cycle_nine(rt: HostRuntime) -> Result<(), Fail> {
     Ok(())
 }
 
+const WORDS: [(&[&str], u8); 20] = [
+    (&["sim", "cnt.v"], 0),
+    (&["sim", "lag=0", "cnt.v"], 0),
+    (&["sim", "lag=64", "cnt.v"], 0),
+    (&["sim", "lag=16384", "cnt.v"], 0),
+    (&["sim", "lag=16385", "cnt.v"], 2),
+    (&["sim", "lag=99999999999999999999", "cnt.v"], 2),
+    (&["sim", "lag=04", "cnt.v"], 2),
+    (&["sim", "lag=", "cnt.v"], 2),
+    (&["sim", "lag=+4", "cnt.v"], 2),
+    (&["sim", "lag=4x", "cnt.v"], 2),
+    (&["sim", "lags=4", "cnt.v"], 2),
+    (&["sim", "lag=4"], 2),
+    (&["sim", "lag=4", "lag=4", "cnt.v"], 2),
+    (&["sim", "cnt.v", "lag=4"], 2),
+    (&["sim", "cnt.v", "lag=4", "none.v"], 2),
+    (&["sim", "cnt.v", ""], 2),
+    (&["sim"], 2),
+    (&[], 2),
+    (&["run", "cnt.v"], 2),
+    (&["sim", "none.v", "cnt.v"], 0),
+];
+
 #[test]
 fn words_have_one_form(rt: HostRuntime) -> Result<(), Fail> {
     let whole = counted(rt.alloc(), 3)?;
-    let well = counter_call(&whole);
-    let cases: [(&[&str], u8); 16] = [
-        (&["sim", "cnt.v"], 0),
-        (&["sim", "lag=0", "cnt.v"], 0),
-        (&["sim", "lag=64", "cnt.v"], 0),
-        (&["sim", "lag=16384", "cnt.v"], 0),
-        (&["sim", "lag=16385", "cnt.v"], 2),
-        (&["sim", "lag=99999999999999999999", "cnt.v"], 2),
-        (&["sim", "lag=04", "cnt.v"], 2),
-        (&["sim", "lag=", "cnt.v"], 2),
-        (&["sim", "lag=+4", "cnt.v"], 2),
-        (&["sim", "lag=4x", "cnt.v"], 2),
-        (&["sim", "lags=4", "cnt.v"], 2),
-        (&["sim", "lag=4"], 2),
-        (&["sim", "lag=4", "lag=4", "cnt.v"], 2),
-        (&["sim", "cnt.v", "lag=4"], 2),
-        (&["sim", "cnt.v", "cnt.v"], 2),
-        (&["run", "cnt.v"], 2),
-    ];
-    for (words, status) in cases.iter() {
+    let well = Call {
+        files: &[("cnt.v", COUNTER), ("none.v", b"")],
+        ..counter_call(&whole)
+    };
+    for (words, status) in WORDS.iter() {
         let came = ask(
             rt.alloc(),
             Call {
@@ -185,63 +196,64 @@ fn words_have_one_form(rt: HostRuntime) -> Result<(), Fail> {
     Ok(())
 }
 
+// Whether a call ends with this status and report, and writes no output.
+fn is_refused(alloc: Global, call: Call<'_>, status: u8, report: &[u8]) -> Result<bool, Fail> {
+    let came = ask(alloc, call)?;
+    Ok(came.status == status && came.report.as_slice() == report && came.out.is_empty())
+}
+
 #[test]
-fn each_refusal_has_its_status_and_line(rt: HostRuntime) -> Result<(), Fail> {
+fn words_files_and_reading_are_refused(rt: HostRuntime) -> Result<(), Fail> {
     let whole = counted(rt.alloc(), 20)?;
     let well = counter_call(&whole);
     let sim: &[&str] = &["sim"];
     let other: &[&str] = &["sim", "m.v"];
-    let cases: [(Call, u8, &[u8]); 9] = [
-        (Call { words: sim, ..well }, 2, b"usage\n"),
-        (
-            Call {
-                words: other,
-                ..well
-            },
-            5,
-            b"file m.v: failed\n",
-        ),
-        (Call { load: 1, ..well }, 5, b"file cnt.v: failed\n"),
-        (Call { file: b"", ..well }, 3, b"design: NotYetBuilt\n"),
-        (
-            Call {
-                file: b"module m; endmodule\n",
-                ..well
-            },
-            3,
-            b"design: NotYetBuilt\n",
-        ),
-        (Call { read: 2, ..well }, 6, b"input: read failed\n"),
-        (
-            Call {
-                stimulus: b"",
-                ..well
-            },
-            4,
-            b"stimulus: NotYetBuilt\n",
-        ),
-        (
-            Call {
-                stimulus: b"stimulus 2\n",
-                ..well
-            },
-            4,
-            b"stimulus: NotYetBuilt\n",
-        ),
-        (
-            Call {
-                stimulus: b"stimulus 1\ninputs rst en\n0 1\n0 2\n",
-                ..well
-            },
-            4,
-            b"stimulus: NotYetBuilt\n",
-        ),
+    let (unworded, unnamed) = (
+        Call { words: sim, ..well },
+        Call {
+            words: other,
+            ..well
+        },
+    );
+    let unloaded = Call { load: 1, ..well };
+    let unread = Call { read: 2, ..well };
+    assert!(rt; is_refused(rt.alloc(), unworded, 2, b"usage\n")?);
+    assert!(rt; is_refused(rt.alloc(), unnamed, 5, b"file m.v: failed\n")?);
+    assert!(rt; is_refused(rt.alloc(), unloaded, 5, b"file cnt.v: failed\n")?);
+    assert!(rt; is_refused(rt.alloc(), unread, 6, b"input: read failed\n")?);
+    Ok(())
+}
+
+#[test]
+fn a_design_that_is_not_built_is_refused(rt: HostRuntime) -> Result<(), Fail> {
+    let whole = counted(rt.alloc(), 20)?;
+    let texts: [&[u8]; 3] = [b"", b"module m; endmodule\n", b"`define A\n"];
+    for text in texts {
+        let call = Call {
+            files: &[("cnt.v", text)],
+            ..counter_call(&whole)
+        };
+        assert!(rt; is_refused(rt.alloc(), call, 3, b"design: NotYetBuilt\n")?);
+    }
+    Ok(())
+}
+
+#[test]
+fn a_stimulus_is_refused(rt: HostRuntime) -> Result<(), Fail> {
+    let texts: [&[u8]; 3] = [
+        b"",
+        b"stimulus 2\n",
+        b"stimulus 1\ninputs rst en\n0 1\n0 2\n",
     ];
-    for (call, status, report) in cases.iter() {
-        let came = ask(rt.alloc(), *call)?;
-        assert_eq!(rt; came.status, *status);
-        assert_eq!(rt; came.report.as_slice(), *report);
-        assert_eq!(rt; came.out.len(), 0);
+    for text in texts {
+        assert!(rt;
+            is_refused(
+                rt.alloc(),
+                counter_call(text),
+                4,
+                b"stimulus: NotYetBuilt\n"
+            )?
+        );
     }
     Ok(())
 }
@@ -267,7 +279,7 @@ fn ask_padded(alloc: Global, length: usize) -> Result<Came, Fail> {
     ask(
         alloc,
         Call {
-            file: &file,
+            files: &[("cnt.v", &file)],
             ..counter_call(b"stimulus 1\ninputs rst en\n")
         },
     )

@@ -1,13 +1,18 @@
 //! The top call.
 
-ghost use Rattle.std.specs.Prelude.{◌≡◌, ◌≤◌, ◌<◌, ◌⊎◌, ◌∷◌, [], map, length, List, ℕ, Bool, IfOk, Some};
+ghost use Rattle.std.specs.Prelude.{◌≡◌, ◌≤◌, ◌<◌, ◌^◌, ◌-◌, ◌⊎◌, map, length, List, ℕ, Bool, IfOk, Some};
 ghost use Rattle.std.specs.declared.option.Option.{Option};
 ghost use Rattle.flat_ir.specs.Names.{input_names};
 ghost use Rattle.vl_tree.specs.Tree.{Module};
 ghost use Rattle.vl_meaning.specs.StandsFor.{StandsFor};
+ghost use Rattle.vl_front.specs.OneCounter.{IsDesign};
+ghost use Rattle.vl_front.specs.Reads.{Reads};
 ghost use Rattle.dessert.specs.Answer.{Status, number, allowed, Answers, Loaded, moment};
 ghost use Rattle.dessert.specs.Words as asked;
-ghost use Rattle.dessert.specs.Outcome.{layers, OneDesign, design_text, ends_line};
+ghost use Rattle.dessert.specs.Named.{named};
+ghost use Rattle.dessert.specs.Sources.{design_text, line_count};
+ghost use Rattle.dessert.specs.Loading.{IsLoaded};
+ghost use Rattle.dessert.specs.Outcome.{layers};
 ghost use Rattle.dessert.specs.Complete.{AllWell};
 ghost use Rattle.dessert.specs.Ran.{RanTo};
 ghost use Rattle.dessert.specs.Report.{failure_text, stop_of};
@@ -19,12 +24,12 @@ use crate::ended::Ended;
 use crate::replay::write_window;
 use crate::rows::{RowsFault, run_rows};
 use crate::run::{Failure, Run};
+use crate::sources::{Origins, Sources, SourcesFault, load_sources};
 use crate::texts;
-use crate::words::{Job, read_words};
+use crate::words::read_words;
 use crate::write::{finish, finish_text};
 use dt_core::fault::NoMemory;
-use dt_core::limits::MAX_FILE;
-use dt_io::outside::{Files, LoadFault, Sink, Source};
+use dt_io::outside::{Files, Sink, Source};
 use flat_ir::flat::Flat;
 use plain_sim::steps::Steps;
 use std::alloc::Global;
@@ -33,9 +38,9 @@ use stim::reader::{StimFault, StimReader};
 use vcd_text::fault::VcdFault;
 use vl_front::{DesignFault, read_design};
 
-/// Loads the file, reads its design, runs it over all rows of the stimulus, and writes what comes of it: the waveform of the window of
-/// a failure to `out`, and then the report. Each cycle that is settled counts one step.
-/// The status: 0 no failure, 1 a failure, 2 the words, 3 the design, 4 the stimulus, 5 the file, 6 reading, 7 writing to `out`, 8 writing
+/// Loads the files, reads their design, runs it over all rows of the stimulus, and writes what comes of it: the waveform of the window
+/// of a failure to `out`, and then the report. Each cycle that is settled counts one step.
+/// The status: 0 no failure, 1 a failure, 2 the words, 3 the design, 4 the stimulus, 5 a file, 6 reading, 7 writing to `out`, 8 writing
 /// the report, 9 want of memory.
 pub fn quiet_main<F: Files, S: Source, V: Sink, T: Sink, L: Ledger>(
     alloc: Global,
@@ -46,10 +51,10 @@ pub fn quiet_main<F: Files, S: Source, V: Sink, T: Sink, L: Ledger>(
     report: &mut T,
     steps: &mut Steps<L>,
 ) -> u8
-    ensures answers { (s : Status) × (result ≡ number s) × Answers layers (F.content files.old) (F.told files.old) (map (λ w. w.now) words.now)
+    ensures answers { (s : Status) × (result ≡ number s) × Answers layers (F.content files.old) (F.told files.old) (named words.now)
         (moment (S.left stimulus.old) (S.faults stimulus.old) (V.held out.old) (V.faults out.old) (T.held report.old) (T.faults report.old) (F.faults files.old))
         (moment (S.left stimulus.new) (S.faults stimulus.new) (V.held out.new) (V.faults out.new) (T.held report.new) (T.faults report.new) (F.faults files.new)) s }
-    ensures complete { AllWell (F.content files.old) (F.told files.old) (map (λ w. w.now) words.now)
+    ensures complete { AllWell (F.content files.old) (F.told files.old) (named words.now)
         (moment (S.left stimulus.old) (S.faults stimulus.old) (V.held out.old) (V.faults out.old) (T.held report.old) (T.faults report.old) (F.faults files.old))
         (moment (S.left stimulus.new) (S.faults stimulus.new) (V.held out.new) (V.faults out.new) (T.held report.new) (T.faults report.new) (F.faults files.new))
         → (result ≡ 0) ⊎ ((result ≡ 1) ⊎ (result ≡ 9)) }
@@ -67,80 +72,69 @@ fn answer<F: Files, S: Source, V: Sink, T: Sink, L: Ledger>(
     report: &mut T,
     steps: &mut Steps<L>,
 ) -> Ended
-    ensures { Answers layers (F.content files.old) (F.told files.old) (map (λ w. w.now) words.now)
+    ensures { Answers layers (F.content files.old) (F.told files.old) (named words.now)
         (moment (S.left stimulus.old) (S.faults stimulus.old) (V.held out.old) (V.faults out.old) (T.held report.old) (T.faults report.old) (F.faults files.old))
         (moment (S.left stimulus.new) (S.faults stimulus.new) (V.held out.new) (V.faults out.new) (T.held report.new) (T.faults report.new) (F.faults files.new)) (status_of result) }
 {
-    let job = match read_words(words) {
-        Some(job) => job,
-        None => return finish(report, texts::USAGE, Ended::Usage),
+    let Some(job) = read_words(words) else {
+        return finish(report, texts::USAGE, Ended::Usage);
     };
-    let mut text = Vec::new(alloc);
-    match files.load(job.file, &mut text, MAX_FILE) {
-        Ok(()) => run_file(alloc, job, text, stimulus, out, report, steps),
-        Err(LoadFault::Failed) => {
-            finish_text(report, texts::file_failed(alloc, job.file), Ended::File)
+    match load_sources(alloc, job.files, files) {
+        Ok(sources) => run_sources(alloc, job.lag, sources, stimulus, out, report, steps),
+        Err(SourcesFault::Failed(name)) => {
+            finish_text(report, texts::file_failed(alloc, name), Ended::File)
         }
-        Err(LoadFault::TooLong) => {
-            finish_text(report, texts::file_long(alloc, job.file), Ended::File)
+        Err(SourcesFault::TooLong(name)) => {
+            finish_text(report, texts::file_long(alloc, name), Ended::File)
         }
-        Err(LoadFault::Memory) => Ended::Memory,
+        Err(SourcesFault::Memory) => Ended::Memory,
     }
 }
 
-// Goes on from a file that was loaded: whatever led there, the answer is the whole call's.
-fn run_file<S: Source, V: Sink, T: Sink, L: Ledger>(
+// Goes on from files that were loaded: whatever led there, the answer is the whole call's.
+fn run_sources<S: Source, V: Sink, T: Sink, L: Ledger>(
     alloc: Global,
-    job: Job<'_>,
-    file: Vec<u8>,
+    lag: u32,
+    sources: Sources<'_>,
     stimulus: &mut S,
     out: &mut V,
     report: &mut T,
     steps: &mut Steps<L>,
 ) -> Ended
-    requires file { length file.items ≤ 4194304 }
-    requires lag { job.lag ≤ 16384 }
+    requires text { length sources.text.items < 2 ^ 32 - 1 }
+    requires lag { lag ≤ 16384 }
     ensures { (content : List ℕ → Option (List ℕ)) (told : Bool) (words : List (List ℕ)) (loads0 loads1 : ℕ)
-        → asked.words_of words ≡ allowed (asked.job job.entry.lag job.entry.file.now) → Loaded content told (job.entry.file.now ∷ []) (file.items ∷ []) → Answers layers content told words
+        → asked.words_of words ≡ allowed (asked.job lag sources.entry.origins.names) → IsLoaded content told sources.entry.origins.names sources.entry.text.items sources.entry.origins.counts
+        → Answers layers content told words
         (moment (S.left stimulus.old) (S.faults stimulus.old) (V.held out.old) (V.faults out.old) (T.held report.old) (T.faults report.old) loads0)
         (moment (S.left stimulus.new) (S.faults stimulus.new) (V.held out.new) (V.faults out.new) (T.held report.new) (T.faults report.new) loads1) (status_of result) }
 {
-    let Ok(text) = design_text(file) else {
-        return Ended::Memory;
-    };
-    match read_design(alloc, &text) {
-        Ok(flat) => run_design(alloc, job, &flat, stimulus, out, report, steps),
-        Err(DesignFault::NotYetBuilt) => finish(report, texts::DESIGN_REFUSED, Ended::Design),
+    let Sources { text, origins } = sources;
+    match read_text(alloc, text) {
+        Ok(flat) => run_design(alloc, lag, &origins, &flat, stimulus, out, report, steps),
+        Err(DesignFault::At { line, kind, .. }) => finish_text(
+            report,
+            texts::design_fault(alloc, origins.spot(line), kind),
+            Ended::Design,
+        ),
+        Err(DesignFault::NotYetBuilt) => finish(report, texts::NOT_BUILT, Ended::Design),
         Err(DesignFault::Memory) => Ended::Memory,
     }
 }
 
-// The text of a design is its file, with LF behind it unless it ends with one.
-fn design_text(mut file: Vec<u8>) -> Result<Vec<u8>, NoMemory>
-    ensures { IfOk result (λ text. text.items ≡ design_text file.items) }
+// The design of a text, which is gone before the run.
+fn read_text(alloc: Global, text: Vec<u8>) -> Result<Flat, DesignFault>
+    requires { length text.items < 2 ^ 32 - 1 }
+    ensures { Reads text.items result }
 {
-    if !ends_line(&file) {
-        if file.push(b'\n').is_err() {
-            return Err(NoMemory);
-        }
-    }
-    Ok(file)
-}
-
-// Whether the bytes end with LF.
-fn ends_line(bytes: &[u8]) -> bool
-    ensures { result ≡ ends_line bytes.now }
-{
-    match bytes {
-        [] => false,
-        [.., last] => *last == b'\n',
-    }
+    read_design(alloc, &text)
 }
 
 // Goes on from an accepted design: whatever led there, the answer is the whole call's.
 fn run_design<S: Source, V: Sink, T: Sink, L: Ledger>(
     alloc: Global,
-    job: Job<'_>,
+    lag: u32,
+    origins: &Origins<'_>,
     flat: &Flat,
     stimulus: &mut S,
     out: &mut V,
@@ -148,20 +142,21 @@ fn run_design<S: Source, V: Sink, T: Sink, L: Ledger>(
     steps: &mut Steps<L>,
 ) -> Ended
     requires inputs { flat.now.inputs ≡ length (input_names flat.now.signals) }
-    requires lag { job.lag ≤ 16384 }
+    requires lag { lag ≤ 16384 }
     ensures { (m : Module) (files : List (List ℕ)) (content : List ℕ → Option (List ℕ)) (told : Bool) (words : List (List ℕ)) (loads0 loads1 : ℕ)
-        → asked.words_of words ≡ allowed (asked.job job.entry.lag job.entry.file.now) → Loaded content told (job.entry.file.now ∷ []) files → OneDesign files m → StandsFor flat.now m → Answers layers content told words
+        → asked.words_of words ≡ allowed (asked.job lag origins.now.names) → Loaded content told origins.now.names files → origins.now.counts ≡ map line_count files
+        → IsDesign (design_text files) m → StandsFor flat.now m → Answers layers content told words
         (moment (S.left stimulus.old) (S.faults stimulus.old) (V.held out.old) (V.faults out.old) (T.held report.old) (T.faults report.old) loads0)
         (moment (S.left stimulus.new) (S.faults stimulus.new) (V.held out.new) (V.faults out.new) (T.held report.new) (T.faults report.new) loads1) (status_of result) }
 {
     let Ok(mut reader) = StimReader::new(alloc, flat) else {
         return Ended::Memory;
     };
-    let Ok(mut run) = Run::start(alloc, flat, job.lag) else {
+    let Ok(mut run) = Run::start(alloc, flat, lag) else {
         return Ended::Memory;
     };
     match run_rows(alloc, &mut reader, &mut run, stimulus, steps) {
-        Ok(()) => settle(alloc, job, &run, out, report, steps),
+        Ok(()) => settle(alloc, lag, origins, &run, out, report, steps),
         Err(fault) => give_up(fault, report),
     }
 }
@@ -190,19 +185,20 @@ fn refuse<T: Sink>(fault: StimFault, report: &mut T) -> Ended
 // Writes what comes of a run over all rows.
 fn settle<V: Sink, T: Sink, L: Ledger>(
     alloc: Global,
-    job: Job<'_>,
+    lag: u32,
+    origins: &Origins<'_>,
     run: &Run<'_>,
     out: &mut V,
     report: &mut T,
     steps: &mut Steps<L>,
 ) -> Ended
     requires { (rows : List (List ℕ)) × RanTo run.now.flat rows run.now }
-    ensures { (rows : List (List ℕ)) → RanTo run.now.flat rows run.now → job.entry.lag < run.now.window.period → Settles (asked.job job.entry.lag job.entry.file.now) run.now.flat rows run.now (status_of result)
+    ensures { (rows : List (List ℕ)) → RanTo run.now.flat rows run.now → lag < run.now.window.period → Settles lag origins.now run.now.flat rows run.now (status_of result)
         (sinks (V.held out.old) (V.faults out.old) (T.held report.old) (T.faults report.old))
         (sinks (V.held out.new) (V.faults out.new) (T.held report.new) (T.faults report.new)) }
 {
     match run.failure() {
-        Some(failure) => fail(alloc, job, run, failure, out, report, steps),
+        Some(failure) => fail(alloc, lag, origins, run, failure, out, report, steps),
         None => finish_text(report, texts::quiet(alloc, run.cycles()), Ended::Quiet),
     }
 }
@@ -210,7 +206,8 @@ fn settle<V: Sink, T: Sink, L: Ledger>(
 // Writes the waveform of the window of a failure, and the report.
 fn fail<V: Sink, T: Sink, L: Ledger>(
     alloc: Global,
-    job: Job<'_>,
+    lag: u32,
+    origins: &Origins<'_>,
     run: &Run<'_>,
     failure: &Failure,
     out: &mut V,
@@ -218,16 +215,16 @@ fn fail<V: Sink, T: Sink, L: Ledger>(
     steps: &mut Steps<L>,
 ) -> Ended
     requires { (rows : List (List ℕ)) × RanTo run.now.flat rows run.now × (run.now.failure ≡ Some failure.now) }
-    ensures { (rows : List (List ℕ)) → RanTo run.now.flat rows run.now → job.entry.lag < run.now.window.period → run.now.failure ≡ Some failure.now
-        → Settles (asked.job job.entry.lag job.entry.file.now) run.now.flat rows run.now (status_of result)
+    ensures { (rows : List (List ℕ)) → RanTo run.now.flat rows run.now → lag < run.now.window.period → run.now.failure ≡ Some failure.now
+        → Settles lag origins.now run.now.flat rows run.now (status_of result)
         (sinks (V.held out.old) (V.faults out.old) (T.held report.old) (T.faults report.old))
         (sinks (V.held out.new) (V.faults out.new) (T.held report.new) (T.faults report.new)) }
 {
-    let first = failure.cycle.saturating_sub(u64::from(job.lag));
+    let first = failure.cycle.saturating_sub(u64::from(lag));
     match write_window(alloc, run.flat(), run.window(), first, out, steps) {
         Ok(()) => finish_text(
             report,
-            failure_report(alloc, job, run.flat(), failure, first),
+            failure_report(alloc, origins, run.flat(), failure, first),
             Ended::Failure,
         ),
         Err(VcdFault::Write) => finish(report, texts::WRITE_FAILED, Ended::Writing),
@@ -238,17 +235,17 @@ fn fail<V: Sink, T: Sink, L: Ledger>(
 // The report of a failure whose window begins in the cycle `first`.
 fn failure_report(
     alloc: Global,
-    job: Job<'_>,
+    origins: &Origins<'_>,
     flat: &Flat,
     failure: &Failure,
     first: u64,
 ) -> Result<Vec<u8>, NoMemory>
-    ensures { IfOk result (λ text. text.items ≡ failure_text failure.now.cycle (map (stop_of flat.now.name job.entry.file.now) failure.now.fired) first) }
+    ensures { IfOk result (λ text. text.items ≡ failure_text failure.now.cycle (map (stop_of flat.now.name origins.now) failure.now.fired) first) }
 {
     texts::failure(
         alloc,
         flat.name(),
-        job.file.as_bytes(),
+        origins,
         failure.cycle,
         &failure.fired,
         first,

@@ -1,10 +1,13 @@
 //! The words of a command line.
 
-ghost use Rattle.std.specs.Prelude.{◌≡◌, ◌≤◌, map, MatchOption, ◌==◌, nat_le};
+ghost use Rattle.std.specs.Prelude.{◌≡◌, ◌≤◌, MatchOption, ◌==◌, nat_le, length, Some};
 ghost use Rattle.std.specs.Char.{is_ascii_digit};
 ghost use Rattle.std.specs.List.{list_all, list_any};
 ghost use Rattle.dessert.specs.Answer.{allowed, bad};
 ghost use Rattle.dessert.specs.Words as spec;
+ghost use Rattle.dessert.specs.Named.{named};
+
+use dt_core::limits::MAX_FILES;
 
 /// The lag where none is set, in cycles.
 const DEFAULT_LAG: u32 = 64;
@@ -12,29 +15,54 @@ const DEFAULT_LAG: u32 = 64;
 /// The greatest lag, in cycles.
 const MAX_LAG: u32 = 16384;
 
-/// What the words ask for: how many cycles before the failure the window begins, and the file of the design.
+/// What the words ask for: how many cycles before the failure the window begins, and the files of the design.
 #[derive(Clone, Copy)]
 pub struct Job<'a> {
     pub lag: u32,
-    pub file: &'a str,
+    pub files: &'a [&'a str],
 }
 
-/// What `sim`, at most one `lag=N`, and a file ask for; none where the words have another form.
-pub fn read_words<'a>(words: &[&'a str]) -> Option<Job<'a>>
-    ensures words { MatchOption result (spec.words_of (map (λ w. w.now) words.now) ≡ bad) (λ j. spec.words_of (map (λ w. w.now) words.now) ≡ allowed (spec.job j.lag j.file.now)) }
+/// What `sim`, at most one `lag=N`, and 1 to 16 files ask for; none where the words have another form.
+pub fn read_words<'a>(words: &'a [&'a str]) -> Option<Job<'a>>
+    ensures words { MatchOption result (spec.words_of (named words.now) ≡ bad) (λ j. spec.words_of (named words.now) ≡ allowed (spec.job j.lag (named j.files.now))) }
     ensures lag { MatchOption result (Unit {0}) (λ j. j.lag ≤ 16384) }
+    ensures files { MatchOption result (Unit {0}) (λ j. length j.files.now ≤ 16) }
 {
     match words {
-        [command, file] if *command == "sim" && is_file_word(file) => Some(Job {
-            lag: DEFAULT_LAG,
-            file: *file,
-        }),
-        [command, setting, file] if *command == "sim" && is_file_word(file) => {
-            let lag = read_lag(setting)?;
-            Some(Job { lag, file: *file })
+        [command, first, more @ ..] if *command == "sim" => {
+            if is_file_word(first) {
+                job_of(DEFAULT_LAG, words.split_at(1).1)
+            } else {
+                job_of(read_lag(first)?, more)
+            }
         }
         _ => None,
     }
+}
+
+// The job of a lag and files, if they are 1 to 16 file words.
+fn job_of<'a>(lag: u32, files: &'a [&'a str]) -> Option<Job<'a>>
+    requires { lag ≤ 16384 }
+    ensures words { MatchOption result (spec.asked (Some lag) (named files.now) ≡ bad) (λ j. spec.asked (Some lag) (named files.now) ≡ allowed (spec.job j.lag (named j.files.now))) }
+    ensures lag { MatchOption result (Unit {0}) (λ j. j.lag ≤ 16384) }
+    ensures files { MatchOption result (Unit {0}) (λ j. length j.files.now ≤ 16) }
+{
+    if files.is_empty() || files.len() > MAX_FILES || !are_file_words(files) {
+        return None;
+    }
+    Some(Job { lag, files })
+}
+
+// Whether each word may be a file.
+fn are_file_words(words: &[&str]) -> bool
+    ensures { result ≡ list_all spec.is_file_word (named words.now) }
+{
+    for word in words {
+        if !is_file_word(word) {
+            return false;
+        }
+    }
+    true
 }
 
 // The lag that a word sets.

@@ -1,32 +1,42 @@
 -- From what the readers of tokens and trees answer to what stands of the text.
-use Rattle.std.proofs.Common.{◌≡◌, ℕ, true, false, List, Ok, sym, ap, subst, ◌∙◌}
-use Rattle.plain_lex.specs.Bytes.{is_plain}
-use Rattle.plain_lex.specs.Tokens.{tokens_of}
+use Rattle.std.proofs.Common.{◌≡◌, ℕ, true, false, List, Ok, Err, sym, ap, subst, ◌∙◌}
 use Rattle.vl_tree.specs.Token.{Tokens}
 use Rattle.vl_tree.specs.Tree.{Module}
 use Rattle.vl_tree.specs.Grammar.{Derives}
 use Rattle.vl_meaning.specs.Faults.{is_sound}
+use Rattle.vl_module.specs.Reading.{IsRefused}
+use Rattle.vl_module.specs.declared.SynFault.{SynFault}
+use Rattle.vl_module.specs.declared.SynFault.TheVariants as tree
+use Rattle.vl_front.specs.Spelled.{spelled}
+use Rattle.vl_front.specs.Faults.{of_tree}
+use Rattle.vl_front.specs.Reads.{Reads}
 use Rattle.vl_front.specs.OneCounter.{IsOneCounter, IsDesign, IsNoDesign}
 
-module _ (text : List ℕ) (ts : Tokens) (spelled : tokens_of text ≡ Ok ts) where
+module _ (text : List ℕ) (ts : Tokens) (is : spelled text ≡ Ok ts) where
   -- a text has one list of tokens, so its module derives from that
   derived : (m : Module) → IsOneCounter text m → Derives ts m
   derived m i =
-      let e : i.tokens ≡ ts = let f = i.spelled in cc in
+      let e : i.tokens ≡ ts = let f = i.is_spelled in cc in
       subst (λ (x : Tokens). Derives x m) e i.derived
 
   -- where no module derives from the tokens, the text is no module's
-  pub no_tree : ((m : Module) → Derives ts m → ⊥) → IsNoDesign text
-  no_tree none m i = none m (derived m i)
+  no_tree : ((m : Module) → Derives ts m → ⊥) → IsNoDesign text
+  no_tree none = record { tokens = ts; is_spelled = is; none = λ m i. none m (derived m i) }
+
+  -- the same of the fault that says so
+  pub refused : (e : SynFault) → IsRefused ts e → Reads text (Err (of_tree e))
+  refused tree.NoTree h = no_tree h
+  refused tree.Memory h = tt
 
   module _ (m : Module) (only : (n : Module) → Derives ts n → n ≡ m) where
     -- where the one module that derives has a static fault, the text is no module's
     pub unsound : false ≡ is_sound m → IsNoDesign text
-    unsound s n i = let t : true ≡ false = sym i.sound ∙ ap is_sound (only n (derived n i)) ∙ sym s in absurd cc
+    unsound s = record {
+      tokens = ts;
+      is_spelled = is;
+      none = λ n i. let t : true ≡ false = sym i.sound ∙ ap is_sound (only n (derived n i)) ∙ sym s in absurd cc;
+    }
 
     -- where it has none, the text is that module's alone
-    pub accepted : is_plain text ≡ true → Derives ts m → is_sound m ≡ true → IsDesign text m
-    accepted p d s = record {
-      here = record { plain = p; tokens = ts; spelled = spelled; derived = d; sound = s };
-      only = λ n i. only n (derived n i);
-    }
+    pub accepted : Derives ts m → is_sound m ≡ true → IsDesign text m
+    accepted d s = record { here = record { tokens = ts; is_spelled = is; derived = d; sound = s }; only = λ n i. only n (derived n i) }

@@ -1,2 +1,4 @@
+pub mod Spelled
 pub mod OneCounter
 pub mod Reads
+pub mod Faults

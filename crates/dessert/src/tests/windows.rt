@@ -168,7 +168,7 @@ fn a_late_window_is_run_again(rt: HostRuntime) -> Result<(), Fail> {
             rt.alloc(),
             Call {
                 words: *words,
-                file: COUNTER,
+                files: &[("cnt.v", COUNTER)],
                 ..counter_call(&stimulus)
             },
         )?;

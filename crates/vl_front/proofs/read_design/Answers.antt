@@ -1,23 +1,25 @@
-use Rattle.std.proofs.Common.{rules, sym, ◌∙◌}
+use Rattle.std.proofs.Common.{sym, ◌∙◌}
+use Rattle.std.proofs.lemmas.Result.{err_from_is_err_and}
 use Rattle.vl_tree.specs.Token.{all_coded}
 use Rattle.vl_tree.specs.View.{module_of}
-use Rattle.vl_front.proofs.Steps.{no_tree, unsound, accepted}
+use Rattle.vl_front.proofs.Steps.{refused, unsound, accepted}
 use Rattle.vl_front.proofs.read_design.Goals as goal
 
-pub returns-in-Err-NoTree : goal.returns-in-Err-NoTree
-returns-in-Err-NoTree c =
+pub returns-in_err-module : goal.returns-in_err-module
+returns-in_err-module c =
     let v = c.deref.ensures.value in
-    no_tree c.args.text.now (all_coded c.deref.result.now) (rw v c.in-Ok.ensures.tokens) (rw c.in-Err-NoTree.field-0-is at c.in-Err-NoTree.ensures.refuses)
+    let p = err_from_is_err_and c.from_residual-in_err-module.result c.from_residual-in_err-module.ensures.1 in
+    rw (p.1, p.2) (refused c.args.text.now (all_coded c.deref.result.now) (rw v c.in_ok-tokens.ensures.tokens) c.in_err-module.field-0.0 c.in_err-module.ensures.refuses)
 
-pub returns-in-Ok-false : goal.returns-in-Ok-false
-returns-in-Ok-false c =
+pub returns-then-not-branch : goal.returns-then-not-branch
+returns-then-not-branch c =
     let v = c.deref.ensures.value in
-    unsound c.args.text.now (all_coded c.deref.result.now) (rw v c.in-Ok.ensures.tokens) (module_of c.in-Ok-parse_module.module) c.in-Ok-parse_module.ensures.only (sym c.in-Ok-false.field-0-test ∙ c.in-Ok-false.ensures)
+    unsound c.args.text.now (all_coded c.deref.result.now) (rw v c.in_ok-tokens.ensures.tokens) (module_of c.in_ok-module.module) c.in_ok-module.ensures.only (sym c.if-not-branch.true ∙ c.in_ok-is_sound.ensures)
 
-pub returns-in-Ok-lower : goal.returns-in-Ok-lower
-returns-in-Ok-lower c =
+pub returns : goal.returns
+returns c =
     let v = c.deref.ensures.value in (
-      module_of c.in-Ok-parse_module.module,
-      accepted c.args.text.now (all_coded c.deref.result.now) (rw v c.in-Ok.ensures.tokens) (module_of c.in-Ok-parse_module.module) c.in-Ok-parse_module.ensures.only (search rules) c.in-Ok-parse_module.ensures.accepts (sym c.in-Ok-true.ensures ∙ c.in-Ok-true.field-0-test),
-      c.in-Ok-lower.ensures,
+      module_of c.in_ok-module.module,
+      accepted c.args.text.now (all_coded c.deref.result.now) (rw v c.in_ok-tokens.ensures.tokens) (module_of c.in_ok-module.module) c.in_ok-module.ensures.only c.in_ok-module.ensures.accepts (sym c.in_ok-is_sound.ensures ∙ c.if-not-branch.false),
+      c.in_ok-lower.ensures,
     )

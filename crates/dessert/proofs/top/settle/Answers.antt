@@ -3,7 +3,6 @@ use Rattle.std.specs.Prelude.{Option, IfOk}
 use Rattle.std.proofs.KnownBytes.{Keeps-refl}
 use Rattle.dessert.specs.Progress.{Failure}
 use Rattle.dessert.specs.Ended.{status_of}
-use Rattle.dessert.specs.Words.{job}
 use Rattle.dessert.specs.Report.{quiet_text}
 use Rattle.dessert.specs.Settles.{out_by, text_by, ended_by}
 use Rattle.dessert.specs.Writing.{sinks, Delivered}
@@ -18,7 +17,7 @@ returns-in-Some g c = λ rows r enough. c.fail.ensures rows r enough c.in-Some.e
 
 pub returns-in-None : goal.returns-in-None
 returns-in-None g c = λ rows r enough.
-    subst (λ (o : Option Failure). Delivered (out_by c.args.job.lag c.args.run.now.flat rows o) (text_by (job c.args.job.lag c.args.job.file.now) c.args.run.now.flat.name c.args.run.now.cycles o) (ended_by o) (status_of c.finish_text.result)
+    subst (λ (o : Option Failure). Delivered (out_by c.args.lag c.args.run.now.flat rows o) (text_by c.args.lag c.args.run.now.flat.name c.args.origins.now c.args.run.now.cycles o) (ended_by o) (status_of c.finish_text.result)
     (sinks (g.V.Sink.held c.args.out.now) (g.V.Sink.faults c.args.out.now) (g.T.Sink.held c.args.report.now) (g.T.Sink.faults c.args.report.now))
     (sinks (g.V.Sink.held c.args.out.now) (g.V.Sink.faults c.args.out.now) (g.T.Sink.held c.finish_text.new.report) (g.T.Sink.faults c.finish_text.new.report)))
     (sym c.in-None.ensures)

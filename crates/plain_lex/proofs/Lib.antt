@@ -1,5 +1,0 @@
-pub mod NumberLaws
-pub mod StringLaws
-pub mod LineLaws
-pub mod LoopLaws
-mod TokenExamples
