@@ -4,14 +4,14 @@ use Rattle.std.specs.Prelude.{Option, Some, None, Ok, Err}
 use Rattle.std.specs.Io.KnownBytes.{Consumes, IsAtEnd}
 use Rattle.vl_tree.specs.Tree.{Module}
 use Rattle.vl_meaning.specs.Objects.{data_inputs}
-use Rattle.vl_front.specs.OneCounter.{IsOneCounter}
+use Rattle.vl_front.specs.OneModule.{IsOneModule}
 use Rattle.stim.specs.Stimulus.{IsStimulus}
 use Rattle.dt_io.specs.Files.{IsLong}
 use Rattle.dessert.specs.Answer.{Outside, Status, quiet, failure, usage, design, input, file, reading, writing, reporting, memory, number, allowed, bad, refused, Loaded, Answers}
 use Rattle.dessert.specs.Words.{Job, words_of}
 use Rattle.dessert.specs.Sources.{design_text}
 use Rattle.dessert.specs.Outcome.{layers, Design, AreDesign, AreRefused, Judges}
-use Rattle.dessert.specs.Complete.{Hold, AllWell}
+use Rattle.dessert.specs.Complete.{AllWell}
 
 -- all that was left was taken
 took_whole : (l n : Option (List ℕ)) (whole bytes : List ℕ) → l ≡ Some whole → Consumes l n bytes → IsAtEnd n → bytes ≡ whole
@@ -31,35 +31,35 @@ not_long : (x : Option (List ℕ)) (bytes : List ℕ) → x ≡ Some bytes → l
 not_long None bytes e l h = h
 not_long (Some xs) bytes e l h = let s : xs ≡ bytes = cc in let k = ap (λ (b : List ℕ). length b) s in absurd (omega (arith, k))
 
--- files that were loaded are those that are there
-same_files : (content : List ℕ → Option (List ℕ)) (names files held : List (List ℕ)) → Hold content names held → Loaded content true names files → files ≡ held
+-- files of the same names that were loaded are the same
+same_files : (content : List ℕ → Option (List ℕ)) (names files others : List (List ℕ)) → Loaded content true names others → Loaded content true names files → files ≡ others
 same_files content [] [] [] h l = refl
-same_files content [] [] (g ∷ held) h l = absurd h
-same_files content [] (f ∷ files) held h l = absurd l
-same_files content (name ∷ names) [] held h l = absurd l
+same_files content [] [] (g ∷ others) h l = absurd h
+same_files content [] (f ∷ files) others h l = absurd l
+same_files content (name ∷ names) [] others h l = absurd l
 same_files content (name ∷ names) (f ∷ files) [] h l = absurd h
-same_files content (name ∷ names) (f ∷ files) (g ∷ held) h l =
-    let s : Some f ≡ Some g = sym (l.0 refl) ∙ h.0 in
+same_files content (name ∷ names) (f ∷ files) (g ∷ others) h l =
+    let s : Some f ≡ Some g = sym (l.0 refl) ∙ h.0 refl in
     let e : f ≡ g = cc in
-    let r = same_files content names files held h.2 l.2 in
+    let r = same_files content names files others h.2 l.2 in
     λ i. e i ∷ r i
 
--- none of the files that are there is too long
-none_long : (content : List ℕ → Option (List ℕ)) (before : List (List ℕ)) (name : List ℕ) (after held : List (List ℕ)) → Hold content (before ++ name ∷ after) held → IsLong (content name) 4194304 → ⊥
+-- none of the files that were loaded is too long
+none_long : (content : List ℕ → Option (List ℕ)) (before : List (List ℕ)) (name : List ℕ) (after files : List (List ℕ)) → Loaded content true (before ++ name ∷ after) files → IsLong (content name) 4194304 → ⊥
 none_long content [] name after [] h l = absurd h
-none_long content [] name after (g ∷ held) h l = not_long (content name) g h.0 h.1 l
+none_long content [] name after (g ∷ files) h l = not_long (content name) g (h.0 refl) h.1 l
 none_long content (b ∷ before) name after [] h l = absurd h
-none_long content (b ∷ before) name after (g ∷ held) h l = none_long content before name after held h.2 l
+none_long content (b ∷ before) name after (g ∷ files) h l = none_long content before name after files h.2 l
 
 module _ (content : List ℕ → Option (List ℕ)) (words : List (List ℕ)) (old new : Outside) (w : AllWell content true words old new) where
   same_job : (other : Job) → words_of words ≡ allowed other → other ≡ w.job
   same_job other e = let s : allowed other ≡ allowed w.job = sym e ∙ w.asked in cc
 
   -- the files that a job loads hold the module's text
-  is_module : (j : Job) (files : List (List ℕ)) → words_of words ≡ allowed j → Loaded content true j.files files → IsOneCounter (design_text files) w.the_module
+  is_module : (j : Job) (files : List (List ℕ)) → words_of words ≡ allowed j → Loaded content true j.files files → IsOneModule (design_text files) w.the_module
   is_module j files e l =
-      let h : Hold content j.files w.files = subst (λ (x : Job). Hold content x.files w.files) (sym (same_job j e)) w.hold in
-      subst (λ (x : List (List ℕ)). IsOneCounter (design_text x) w.the_module) (sym (same_files content j.files files w.files h l)) w.design
+      let h : Loaded content true j.files w.files = subst (λ (x : Job). Loaded content true x.files w.files) (sym (same_job j e)) w.loaded in
+      subst (λ (x : List (List ℕ)). IsOneModule (design_text x) w.the_module) (sym (same_files content j.files files w.files h l)) w.design
 
   -- an accepted design is the module
   the_top : (j : Job) (files : List (List ℕ)) (d : Design) → words_of words ≡ allowed j → Loaded content true j.files files → AreDesign j files d → d.top ≡ w.the_module
@@ -88,8 +88,8 @@ module _ (content : List ℕ → Option (List ℕ)) (words : List (List ℕ)) (o
 
   no_file : (before : List (List ℕ)) (name : List ℕ) (after : List (List ℕ)) (job : Job) → words_of words ≡ allowed job → job.files ≡ before ++ name ∷ after → IsLong (content name) 4194304 → ⊥
   no_file before name after job e n l =
-      let h : Hold content job.files w.files = subst (λ (x : Job). Hold content x.files w.files) (sym (same_job job e)) w.hold in
-      none_long content before name after w.files (subst (λ (x : List (List ℕ)). Hold content x w.files) n h) l
+      let h : Loaded content true job.files w.files = subst (λ (x : Job). Loaded content true x.files w.files) (sym (same_job job e)) w.loaded in
+      none_long content before name after w.files (subst (λ (x : List (List ℕ)). Loaded content true x w.files) n h) l
 
   pub ends : (s : Status) → Answers layers content true words old new s → (number s ≡ 0) ⊎ ((number s ≡ 1) ⊎ (number s ≡ 9))
   ends quiet a = inl refl

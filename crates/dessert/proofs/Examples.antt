@@ -8,12 +8,12 @@ use Rattle.vl_tree.proofs.Counter.{counter}
 use Rattle.vl_tree.proofs.GrammarExamples.{counter_tokens, counter_derives}
 use Rattle.vl_tree.specs.declared.fault.FaultKind.TheVariants as k
 use Rattle.vl_front.specs.Spelled.{fault}
-use Rattle.vl_front.specs.OneCounter.{IsOneCounter}
+use Rattle.vl_front.specs.OneModule.{IsOneModule}
 use Rattle.dessert.specs.Report.{Stop, stop_text, failure_text, quiet_text, file_failed_text, file_long_text}
 use Rattle.dessert.specs.Answer.{allowed, bad, done}
 use Rattle.vcd_text.specs.Vcd.{code}
 use Rattle.dessert.specs.Words.{job, words_of}
-use Rattle.dessert.specs.Sources.{design_text, Origins, origins_of, spot, spot_in}
+use Rattle.dessert.specs.Sources.{design_text, Origins, origins_of, spot, spot_in, line_at}
 use Rattle.dessert.specs.Outcome.{Design, AreRefused, output_of, report_of, Judges}
 
 -- ---- words
@@ -99,11 +99,18 @@ line_of_the_empty_file = refl
 line_of_the_last : spot_in three_files 5 ≡ spot (codes "c.v") 1
 line_of_the_last = refl
 
+-- the third line has its LF only in the text of the design
+third_line : line_at 3 (design_text (codes "1\n2\n3" ∷ [] ∷ codes "5\n" ∷ [])) ≡ codes "3\n"
+third_line = refl
+
+fourth_line : line_at 4 (design_text (codes "1\n2\n3" ∷ [] ∷ codes "5\n" ∷ [])) ≡ codes "\n"
+fourth_line = refl
+
 -- the counter's file is the counter's text: its tokens, line by line, derive the tree, which has no static fault
 abbrev counter_file : List ℕ
 counter_file = codes "module cnt(input clk, input rst, input en, output reg [3:0] r);\n  always @(posedge clk) begin\n    if (rst)\n      r <= 4'd0;\n    else if (en)\n      r <= r + 4'd1;\n    if (r == 4'd9) begin\n      $display(\"r hit %0d\", r);\n      $stop;\n    end\n  end\nendmodule\n"
 
-counter_is_read : IsOneCounter (design_text (counter_file ∷ [])) counter
+counter_is_read : IsOneModule (design_text (counter_file ∷ [])) counter
 counter_is_read = record { tokens = counter_tokens; is_spelled = refl; derived = counter_derives; sound = refl }
 
 -- an unknown macro on the first line of the second file

@@ -18,7 +18,7 @@ use Rattle.vcd_text.specs.declared.fault.VcdFault.{VcdFault}
 use Rattle.dessert.specs.Again.{flat_shown_at, wave_until, Waves}
 use Rattle.dessert.specs.Writing.{sinks, Wrote, Reported, Delivered}
 use Rattle.dessert.proofs.KeptLaws.{lengths}
-use Rattle.dessert.specs.Settles.{out_by, text_by, ended_by, Settles}
+use Rattle.dessert.specs.Written.{out_by, text_by, ended_by, RunIsWritten}
 
 -- the same numbers, one behind another
 pub from_on_same : (g h : ℕ → List ℕ) (k n : ℕ) → ((t : ℕ) → k ≤ t → t < k + n → g t ≡ h t) → from_on g k n ≡ from_on h k n
@@ -89,19 +89,19 @@ module _ (f : Flat) (rows : List (List ℕ)) (p : Progress) (x : Failure) (is : 
 
   module _ (lag : ℕ) (origins : Origins) (result : Status) (o o' h h' : Option (List ℕ)) (w w' n n' : ℕ) where
     settles_by : Delivered (wave_until f rows (window_start lag x.cycle) (suc x.cycle)) (failure_text x.cycle (map (stop_of f.name origins) x.fired) (window_start lag x.cycle)) failure result (sinks o w h n) (sinks o' w' h' n')
-        → Settles lag origins f rows p result (sinks o w h n) (sinks o' w' h' n')
+        → RunIsWritten lag origins f rows p result (sinks o w h n) (sinks o' w' h' n')
     settles_by d = subst (λ (y : Option Failure). Delivered (out_by lag f rows y) (text_by lag f.name origins p.cycles y) (ended_by y) result (sinks o w h n) (sinks o' w' h' n')) (sym is) d
 
     -- the waveform was written, and then the report
     pub both_written : Appends o o' (wave_until f seen (window_start lag x.cycle) (length seen))
-        → Reported (failure_text x.cycle (map (stop_of f.name origins) x.fired) (window_start lag x.cycle)) failure result h h' n n' → Settles lag origins f rows p result (sinks o w h n) (sinks o' w' h' n')
+        → Reported (failure_text x.cycle (map (stop_of f.name origins) x.fired) (window_start lag x.cycle)) failure result h h' n n' → RunIsWritten lag origins f rows p result (sinks o w h n) (sinks o' w' h' n')
     both_written a t = settles_by (inl (subst (Appends o o') (wave_is (window_start lag x.cycle)) a, t))
 
     -- a front of the waveform was written, and then the line that says so
     pub wave_failed : Rose w w' → AppendsPart o o' (wave_until f seen (window_start lag x.cycle) (length seen)) → Wrote write_failed_text writing result h h' n n'
-        → Settles lag origins f rows p result (sinks o w h n) (sinks o' w' h' n')
+        → RunIsWritten lag origins f rows p result (sinks o w h n) (sinks o' w' h' n')
     wave_failed c a t = settles_by (inr (inl (c, subst (AppendsPart o o') (wave_is (window_start lag x.cycle)) a, t)))
 
     -- a front of the waveform was written, and there was no memory for more
-    pub wave_stopped : AppendsPart o o' (wave_until f seen (window_start lag x.cycle) (length seen)) → result ≡ memory → Keeps h h' → Settles lag origins f rows p result (sinks o w h n) (sinks o' w' h' n')
+    pub wave_stopped : AppendsPart o o' (wave_until f seen (window_start lag x.cycle) (length seen)) → result ≡ memory → Keeps h h' → RunIsWritten lag origins f rows p result (sinks o w h n) (sinks o' w' h' n')
     wave_stopped a e k = settles_by (inr (inr (e, subst (AppendsPart o o') (wave_is (window_start lag x.cycle)) a, k)))

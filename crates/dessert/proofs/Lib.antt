@@ -3,6 +3,7 @@ pub mod CompleteLaw
 pub mod RanLaws
 pub mod KeptLaws
 pub mod LoadLaws
+pub mod SpotLaws
 pub mod RowsLaws
 pub mod StateLaws
 pub mod ReplayLaws

@@ -29,7 +29,7 @@ use Rattle.dessert.specs.Progress.{Failure, Progress}
 use Rattle.dessert.specs.Ran.{fired_at, Found, RanTo}
 use Rattle.dessert.specs.Again.{flat_shown_at}
 use Rattle.dessert.specs.Writing.{sinks_of, done_status, Delivered}
-use Rattle.dessert.specs.Settles.{ended_by, out_by, text_by, Settles}
+use Rattle.dessert.specs.Written.{ended_by, out_by, text_by, RunIsWritten}
 use Rattle.dessert.proofs.Cases.{delivered_answers}
 use Rattle.dessert.proofs.FailLaws.{from_on_same}
 
@@ -108,7 +108,7 @@ module _ (content : List ℕ → Option (List ℕ)) (told : Bool) (words : List 
   -- the texts of a run over the whole input were written, in part or not at all
   pub settled : (j : Job) (f : Flat) (m : Module) (origins : Origins) (rows : List (List ℕ)) (bytes : List ℕ) (p : Progress) (result : Status)
       → StandsFor f m → is_sound m ≡ true → Ready layers content told words old new j (record { top = m; origins = origins }) → Consumes old.left new.left bytes → IsAtEnd new.left
-      → IsStimulus (data_inputs m) rows bytes → RanTo f rows p → Settles j.lag origins f rows p result (sinks_of old) (sinks_of new) → Answers layers content told words old new result
+      → IsStimulus (data_inputs m) rows bytes → RanTo f rows p → RunIsWritten j.lag origins f rows p result (sinks_of old) (sinks_of new) → Answers layers content told words old new result
   settled j f m origins rows bytes p result s sound r c e i ran d =
       let is = judged f m rows s (rows_fit m rows bytes sound i) j origins bytes p.state p.failure i ran.ran.found in
       let t : text_by j.lag f.name origins p.cycles p.failure ≡ text_by j.lag m.name origins (length rows) p.failure = (λ x. text_by j.lag (s.name x) origins (ran.count x) p.failure) in

@@ -10,7 +10,7 @@ use Rattle.vl_meaning.specs.Objects.{data_inputs}
 use Rattle.vl_meaning.specs.StandsFor.{StandsFor}
 use Rattle.vl_tree.specs.declared.fault.FaultKind.{FaultKind}
 use Rattle.vl_front.specs.Spelled.{Fault, spelled}
-use Rattle.vl_front.specs.OneCounter.{IsDesign, IsNoDesign}
+use Rattle.vl_front.specs.OneModule.{IsDesign, IsNoDesign}
 use Rattle.stim.specs.Stimulus.{IsStimulus, Begins, IsWhole}
 use Rattle.stim.specs.declared.reader.StimFault.{StimFault}
 use Rattle.stim.specs.declared.reader.StimFault.TheVariants as s
@@ -22,7 +22,7 @@ use Rattle.dessert.specs.Outcome.{layers, Design}
 use Rattle.dessert.specs.Progress.{Progress}
 use Rattle.dessert.specs.Ran.{RanTo}
 use Rattle.dessert.specs.Rows.{RanAll}
-use Rattle.dessert.specs.Settles.{Settles, GivesUp, refusal_text, refusal_status}
+use Rattle.dessert.specs.Written.{RunIsWritten, GivesUp, refusal_text, refusal_status}
 use Rattle.dessert.specs.Writing.{sinks_of, Wrote, Reported}
 use Rattle.dessert.specs.Report.{fault_text, not_built_text}
 use Rattle.dessert.specs.declared.rows.RowsFault.{RowsFault}
@@ -85,11 +85,11 @@ module _ (content : List ℕ → Option (List ℕ)) (told : Bool) (words : List 
 
     -- the run came to the end of the rows
     pub ran_answers : (p : Progress) (result : Status) → RanAll x (input_names x.signals) old.left new.left old.reads new.reads p (Ok tt)
-        → ((rows : List (List ℕ)) → RanTo x rows p → Settles job.lag origins x rows p result (sinks_of old) (sinks_of new)) → Answers layers content told words old new result
+        → ((rows : List (List ℕ)) → RanTo x rows p → RunIsWritten job.lag origins x rows p result (sinks_of old) (sinks_of new)) → Answers layers content told words old new result
     ran_answers p result r d =
         settled content told words old new job flat m origins r.0 r.1 p result stands one.here.sound ready r.2 r.3
         (subst (λ (ns : List (List ℕ)). IsStimulus ns r.0 r.1) names r.4) (subst (λ (y : Flat). RanTo y r.0 p) same r.5)
-        (subst (λ (y : Flat). Settles job.lag origins y r.0 p result (sinks_of old) (sinks_of new)) same (d r.0 r.5))
+        (subst (λ (y : Flat). RunIsWritten job.lag origins y r.0 p result (sinks_of old) (sinks_of new)) same (d r.0 r.5))
 
     -- the stimulus was refused, or its source failed
     refused_answers : (e : StimFault) (p : Progress) (result : Status) → Keeps old.out new.out → RanAll x (input_names x.signals) old.left new.left old.reads new.reads p (Err (f.Stimulus e))

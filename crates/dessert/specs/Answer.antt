@@ -4,6 +4,7 @@ use Rattle.std.specs.Prelude.{◌≡◌, ℕ, ◌≤◌, Bool, true, false, IsTr
 use Rattle.std.specs.Io.KnownBytes.{Appends, Consumes, IsAtEnd, Keeps}
 use Rattle.dt_core.specs.Causes.{Rose, AppendsPart}
 use Rattle.dt_io.specs.Files.{IsLong}
+use Rattle.dessert.specs.Sources.{most_file}
 use Rattle.dessert.specs.Report.{usage_text, file_failed_text, file_long_text, read_failed_text, write_failed_text}
 
 -- ---- statuses
@@ -77,7 +78,7 @@ moment l r o w h p n = record { left = l; reads = r; out = o; writes = w; report
 -- the files of these names hold these contents, where that is told, and each is within the limit
 abbrev pub Loaded : (List ℕ → Option (List ℕ)) → Bool → List (List ℕ) → List (List ℕ) → Type 0
 Loaded content told [] [] = Unit {0}
-Loaded content told (name ∷ names) (bytes ∷ files) = (IsTrue told → content name ≡ Some bytes) × (length bytes ≤ 4194304) × Loaded content told names files
+Loaded content told (name ∷ names) (bytes ∷ files) = (IsTrue told → content name ≡ Some bytes) × (length bytes ≤ most_file) × Loaded content told names files
 Loaded content told _ _ = ⊥
 
 -- ---- the answer
@@ -134,7 +135,7 @@ module _ (L : Layers) (content : List ℕ → Option (List ℕ)) (told : Bool) (
   abbrev pub FileCause : List ℕ → List ℕ → Type 0
   FileCause name report =
       (Rose old.loads new.loads × (report ≡ file_failed_text name))
-      ⊎ ((IsTrue told → IsLong (content name) 4194304) × (told ≡ false → Rose old.loads new.loads) × (report ≡ file_long_text name))
+      ⊎ ((IsTrue told → IsLong (content name) most_file) × (told ≡ false → Rose old.loads new.loads) × (report ≡ file_long_text name))
 
   -- status 5: all files before one were loaded, and that one was not
   pub record BadFile (report : List ℕ) : Type 0 where

@@ -1,20 +1,14 @@
 -- When all is well outside: the words are allowed, the files load and are a design, the input is a stimulus, and no count of faults
 -- rises. This project's own.
-use Rattle.std.specs.Prelude.{◌≡◌, ℕ, ◌≤◌, Bool, true, List, [], ◌∷◌, length, Option, Some}
+use Rattle.std.specs.Prelude.{◌≡◌, ℕ, Bool, true, List, Option, Some}
 use Rattle.dt_core.specs.Causes.{Rose}
 use Rattle.vl_tree.specs.Tree.{Module}
 use Rattle.vl_meaning.specs.Objects.{data_inputs}
-use Rattle.vl_front.specs.OneCounter.{IsOneCounter}
+use Rattle.vl_front.specs.OneModule.{IsOneModule}
 use Rattle.stim.specs.Stimulus.{IsStimulus}
-use Rattle.dessert.specs.Answer.{Outside, allowed}
+use Rattle.dessert.specs.Answer.{Outside, allowed, Loaded}
 use Rattle.dessert.specs.Words.{Job, words_of}
 use Rattle.dessert.specs.Sources.{design_text}
-
--- the files of these names hold these contents, and each is within the limit
-abbrev pub Hold : (List ℕ → Option (List ℕ)) → List (List ℕ) → List (List ℕ) → Type 0
-Hold content [] [] = Unit {0}
-Hold content (name ∷ names) (bytes ∷ files) = (content name ≡ Some bytes) × (length bytes ≤ 4194304) × Hold content names files
-Hold content _ _ = ⊥
 
 pub record AllWell (content : List ℕ → Option (List ℕ)) (told : Bool) (words : List (List ℕ)) (old new : Outside) : Type 0 where
   pub job : Job
@@ -24,8 +18,8 @@ pub record AllWell (content : List ℕ → Option (List ℕ)) (told : Bool) (wor
   pub bytes : List ℕ
   pub asked : words_of words ≡ allowed job
   pub is_told : told ≡ true
-  pub hold : Hold content job.files files
-  pub design : IsOneCounter (design_text files) the_module
+  pub loaded : Loaded content true job.files files
+  pub design : IsOneModule (design_text files) the_module
   pub left : old.left ≡ Some bytes
   pub stimulus : IsStimulus (data_inputs the_module) rows bytes
   pub reads : Rose old.reads new.reads → ⊥

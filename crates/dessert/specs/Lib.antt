@@ -13,4 +13,4 @@ pub mod Ran
 pub mod Rows
 pub mod Again
 pub mod Complete
-pub mod Settles
+pub mod Written

@@ -6,7 +6,7 @@ use Rattle.vl_meaning.specs.Objects.{data_inputs}
 use Rattle.vl_meaning.specs.Run.{fires, first_failure}
 use Rattle.vl_meaning.specs.Shown.{scope_of, shown_at}
 use Rattle.vl_front.specs.Spelled.{Fault, spelled}
-use Rattle.vl_front.specs.OneCounter.{IsDesign, IsNoDesign}
+use Rattle.vl_front.specs.OneModule.{IsDesign, IsNoDesign}
 use Rattle.stim.specs.Stimulus.{IsStimulus, Begins, IsWhole}
 use Rattle.vcd_text.specs.Vcd.{vcd_text}
 use Rattle.dessert.specs.Report.{stop_of, failure_text, quiet_text, fault_text, not_built_text, stimulus_refused_text}

@@ -2,8 +2,8 @@
 use Rattle.flat_ir.specs.Fired.{Fired}
 use Rattle.vl_tree.specs.Fault.{name_of}
 use Rattle.vl_tree.specs.declared.fault.FaultKind.{FaultKind}
-use Rattle.dessert.specs.Sources.{Spot, Origins, spot_in}
-use Rattle.std.specs.Prelude.{ℕ, ◌==◌, if◌then◌else◌, List, [], ◌∷◌, ◌++◌, length, codes, decimal, slice_index}
+use Rattle.dessert.specs.Sources.{ends_line, Spot, Origins, spot_in}
+use Rattle.std.specs.Prelude.{ℕ, ◌==◌, ◌||◌, if◌then◌else◌, List, [], ◌∷◌, ◌++◌, length, codes, decimal}
 
 -- ---- a failure
 
@@ -16,8 +16,7 @@ pub record Stop : Type 0 where
 
 -- what ends a message: nothing where it is empty or ends with LF, else LF
 abbrev pub line_end : List ℕ → List ℕ
-line_end [] = []
-line_end (b ∷ bs) = if slice_index (b ∷ bs) (length bs) == 10 then [] else 10 ∷ []
+line_end message = if length message == 0 || ends_line message then [] else 10 ∷ []
 
 -- a stop's line
 abbrev pub place_text : List ℕ → List ℕ → ℕ → List ℕ

@@ -1,6 +1,10 @@
 -- The files of a design: the text that they make together, and where each of its lines stands. This project's own.
-use Rattle.std.specs.Prelude.{ℕ, ◌-◌, ◌==◌, nat_le, Bool, false, if◌then◌else◌, List, [], ◌∷◌, ◌++◌, length, map, slice_index}
+use Rattle.std.specs.Prelude.{ℕ, zero, suc, ◌+◌, ◌-◌, ◌==◌, ◌≡◌, ◌<◌, ◌≤◌, nat_le, Bool, false, if◌then◌else◌, List, [], ◌∷◌, ◌++◌, length, map, take, slice_index, slice_index_or}
 use Rattle.std.specs.List.{count_by}
+
+-- the most bytes of a file
+abbrev pub most_file : ℕ
+most_file = 4194304
 
 -- ---- the text
 
@@ -41,8 +45,8 @@ pub record Origins : Type 0 where
 abbrev pub origins_of : List (List ℕ) → List (List ℕ) → Origins
 origins_of names files = record { names = names; counts = map line_count files }
 
--- where a line of the text stands: in the first file, if that has so many lines, or as many lines further on in those behind it;
--- what is behind the last line counts on in the last file
+-- where a line of the text stands: in the first file, if that has so many lines; else in the files behind it, with the first file's
+-- lines taken off. Behind the last line the last file's lines are counted on, which no fault and no stop needs.
 abbrev pub spot_among : List (List ℕ) → List ℕ → ℕ → Spot
 spot_among [] counts line = spot [] line
 spot_among (name ∷ []) counts line = spot name line
@@ -52,3 +56,25 @@ spot_among (name ∷ other ∷ names) (count ∷ counts) line =
 
 abbrev pub spot_in : Origins → ℕ → Spot
 spot_in o line = spot_among o.names o.counts line
+
+-- ---- what a spot is, in the words of its reader
+
+-- a line of a text, from 1, with its LF
+abbrev pub line_at : ℕ → List ℕ → List ℕ
+line_at n [] = []
+line_at zero (b ∷ bs) = []
+line_at (suc zero) (b ∷ bs) = if b == 10 then b ∷ [] else b ∷ line_at 1 bs
+line_at (suc (suc n)) (b ∷ bs) = if b == 10 then line_at (suc n) bs else line_at (suc (suc n)) bs
+
+-- the line of the text is the spot's line of file k, whose name the spot has: so many lines stand in the files before it
+pub record IsSpot (names files : List (List ℕ)) (line k : ℕ) (s : Spot) : Type 0 where
+  pub there : k < length files
+  pub place : line ≡ count_by (λ b. b == 10) (design_text (take k files)) + s.line
+  pub named : s.file ≡ slice_index_or names k []
+  pub within : (1 ≤ s.line) × (s.line ≤ line_count (slice_index_or files k []))
+  pub same : line_at s.line (closed (slice_index_or files k [])) ≡ line_at line (design_text files)
+
+-- each line of the text stands where its spot says
+abbrev pub SpotsAreRight : Type 0
+SpotsAreRight = (names files : List (List ℕ)) (line : ℕ) → length names ≡ length files → 1 ≤ line → line ≤ count_by (λ b. b == 10) (design_text files)
+    → (k : ℕ) × IsSpot names files line k (spot_in (origins_of names files) line)

@@ -16,6 +16,13 @@ job lag files = record { lag = lag; files = files }
 abbrev pub default_lag : ℕ
 default_lag = 64
 
+-- the greatest lag, and the most files
+abbrev pub most_lag : ℕ
+most_lag = 16384
+
+abbrev pub most_files : ℕ
+most_files = 16
+
 -- ---- numbers
 
 -- a decimal without sign and without a leading zero, `0` aside
@@ -28,7 +35,7 @@ decimal_of ds = fold (λ n d. 10 * n + (d - 48)) 0 ds
 
 -- a lag is a decimal of at most 16,384
 abbrev pub is_lag : List ℕ → Bool
-is_lag ds = is_decimal ds && nat_le (decimal_of ds) 16384
+is_lag ds = is_decimal ds && nat_le (decimal_of ds) most_lag
 
 abbrev pub some_when : Bool → ℕ → Option ℕ
 some_when true n = Some n
@@ -46,7 +53,7 @@ is_file_word word = not (length word == 0) && not (list_any (λ b. b == 61) word
 
 -- 1 to 16 file words
 abbrev pub are_file_words : List (List ℕ) → Bool
-are_file_words words = nat_le 1 (length words) && (nat_le (length words) 16 && list_all is_file_word words)
+are_file_words words = nat_le 1 (length words) && (nat_le (length words) most_files && list_all is_file_word words)
 
 -- the job of a lag, if there is one, and file words
 abbrev pub asked : Option ℕ → List (List ℕ) → Words Job

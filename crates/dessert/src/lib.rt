@@ -21,4 +21,5 @@ mod window;
 mod words;
 mod write;
 
+pub use sources::spot_law;
 pub use top::quiet_main;

@@ -6,7 +6,7 @@ ghost use Rattle.dt_io.specs.declared.outside.LoadFault.TheVariants as load;
 ghost use Rattle.dessert.specs.Loading.{LoadsOne, IsLoaded, NotLoaded};
 ghost use Rattle.dessert.specs.Named.{named};
 ghost use Rattle.dessert.specs.Sources as sources;
-ghost use Rattle.dessert.specs.Sources.{closed, spot_in};
+ghost use Rattle.dessert.specs.Sources.{closed, spot_in, SpotsAreRight};
 
 use dt_core::limits::MAX_FILE;
 use dt_io::outside::{Files, LoadFault};
@@ -59,6 +59,11 @@ fn spot_among<'a>(names: &'a [&'a str], counts: &[u32], line: u32) -> Spot<'a>
         ([], _) => Spot { file: "", line },
     }
 }
+
+/// Each line of the text of a design is the line of the file that its spot names.
+pub fn spot_law()
+    ensures { SpotsAreRight }
+{}
 
 /// The text of a design, and where its lines stand.
 #[derive(Drop)]
@@ -135,8 +140,8 @@ fn close(text: &mut Vec<u8>, start: usize) -> Result<(), LoadFault>
     }
 }
 
-// Whether the bytes end with LF.
-fn ends_line(bytes: &[u8]) -> bool
+/// Whether the bytes end with LF.
+pub fn ends_line(bytes: &[u8]) -> bool
     ensures { result ≡ sources.ends_line bytes.now }
 {
     match bytes {

@@ -4,7 +4,7 @@ ghost use Rattle.std.specs.Prelude.{◌≡◌, ◌++◌, ◌∷◌, [], OnOk, If
 ghost use Rattle.dessert.specs.Report.{failure_text, quiet_text, place_text, stop_of, stop_text, stops_text, line_end, fault_text, file_failed_text, file_long_text};
 ghost use Rattle.dessert.specs.Sources.{spot as spec_spot};
 
-use crate::sources::{Origins, Spot};
+use crate::sources::{Origins, Spot, ends_line};
 use dt_core::append::{push, push_number};
 use dt_core::fault::NoMemory;
 use plain_sim::fired::Fired;
@@ -25,9 +25,10 @@ pub const WRITE_FAILED: &[u8] = b"output: write failed\n";
 fn end_of(message: &[u8]) -> &'static [u8]
     ensures { result.now ≡ line_end message.now }
 {
-    match message {
-        [] => b"",
-        [.., last] => { if *last == b'\n' { b"" } else { b"\n" } }
+    if message.is_empty() || ends_line(message) {
+        b""
+    } else {
+        b"\n"
     }
 }
 

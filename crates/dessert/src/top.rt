@@ -5,7 +5,7 @@ ghost use Rattle.std.specs.declared.option.Option.{Option};
 ghost use Rattle.flat_ir.specs.Names.{input_names};
 ghost use Rattle.vl_tree.specs.Tree.{Module};
 ghost use Rattle.vl_meaning.specs.StandsFor.{StandsFor};
-ghost use Rattle.vl_front.specs.OneCounter.{IsDesign};
+ghost use Rattle.vl_front.specs.OneModule.{IsDesign};
 ghost use Rattle.vl_front.specs.Reads.{Reads};
 ghost use Rattle.dessert.specs.Answer.{Status, number, allowed, Answers, Loaded, moment};
 ghost use Rattle.dessert.specs.Words as asked;
@@ -16,7 +16,7 @@ ghost use Rattle.dessert.specs.Outcome.{layers};
 ghost use Rattle.dessert.specs.Complete.{AllWell};
 ghost use Rattle.dessert.specs.Ran.{RanTo};
 ghost use Rattle.dessert.specs.Report.{failure_text, stop_of};
-ghost use Rattle.dessert.specs.Settles.{Settles, GivesUp, refusal_text, refusal_status};
+ghost use Rattle.dessert.specs.Written.{RunIsWritten, GivesUp, refusal_text, refusal_status};
 ghost use Rattle.dessert.specs.Writing.{Wrote, sinks};
 ghost use Rattle.dessert.specs.Ended.{status_of};
 
@@ -193,7 +193,7 @@ fn settle<V: Sink, T: Sink, L: Ledger>(
     steps: &mut Steps<L>,
 ) -> Ended
     requires { (rows : List (List ℕ)) × RanTo run.now.flat rows run.now }
-    ensures { (rows : List (List ℕ)) → RanTo run.now.flat rows run.now → lag < run.now.window.period → Settles lag origins.now run.now.flat rows run.now (status_of result)
+    ensures { (rows : List (List ℕ)) → RanTo run.now.flat rows run.now → lag < run.now.window.period → RunIsWritten lag origins.now run.now.flat rows run.now (status_of result)
         (sinks (V.held out.old) (V.faults out.old) (T.held report.old) (T.faults report.old))
         (sinks (V.held out.new) (V.faults out.new) (T.held report.new) (T.faults report.new)) }
 {
@@ -216,7 +216,7 @@ fn fail<V: Sink, T: Sink, L: Ledger>(
 ) -> Ended
     requires { (rows : List (List ℕ)) × RanTo run.now.flat rows run.now × (run.now.failure ≡ Some failure.now) }
     ensures { (rows : List (List ℕ)) → RanTo run.now.flat rows run.now → lag < run.now.window.period → run.now.failure ≡ Some failure.now
-        → Settles lag origins.now run.now.flat rows run.now (status_of result)
+        → RunIsWritten lag origins.now run.now.flat rows run.now (status_of result)
         (sinks (V.held out.old) (V.faults out.old) (T.held report.old) (T.faults report.old))
         (sinks (V.held out.new) (V.faults out.new) (T.held report.new) (T.faults report.new)) }
 {

@@ -6,11 +6,12 @@ pub const VERSION: &[u8] = b"dessert 1\n";
 /// Answers `--help`.
 pub const HELP: &[u8] = b"dessert: runs a Verilog design to its first failing assertion
 
-  dessert sim [lag=N] FILE < STIMULUS > WAVEFORM
+  dessert sim [lag=N] FILE... < STIMULUS > WAVEFORM
 
-FILE is a module with one clocked block. STIMULUS is read from standard input:
-line 1 `stimulus 1`, line 2 `inputs` and the data inputs in order of the ports,
-then a line for each cycle, one digit for each input with one space between.
+FILE, 1 to 16 of them, make a module with one clocked block. STIMULUS is read
+from standard input: line 1 `stimulus 1`, line 2 `inputs` and the data inputs in
+order of the ports, then a line for each cycle, with one digit for each input
+and one space between.
 
 Where a `$stop` executes, the waveform of that cycle and the N cycles before it
 (0 to 16384, else 64) goes to standard output, as a VCD that any viewer opens.
@@ -20,6 +21,6 @@ where it stands, its message and the window, or that there was no failure.
   dessert sim lag=4 examples/cnt.v < examples/cnt20.stimulus > cnt.vcd
 
 Status: 0 no failure, 1 a failure, 2 wrong words, 3 the design is refused,
-4 the stimulus is refused, 5 the file failed, 6 reading failed, 7 writing the
+4 the stimulus is refused, 5 a file failed, 6 reading failed, 7 writing the
 waveform failed, 8 writing the report failed, 9 no memory.
 ";

@@ -10,11 +10,11 @@ use Rattle.vl_module.specs.declared.SynFault.TheVariants as tree
 use Rattle.vl_front.specs.Spelled.{spelled}
 use Rattle.vl_front.specs.Faults.{of_tree}
 use Rattle.vl_front.specs.Reads.{Reads}
-use Rattle.vl_front.specs.OneCounter.{IsOneCounter, IsDesign, IsNoDesign}
+use Rattle.vl_front.specs.OneModule.{IsOneModule, IsDesign, IsNoDesign}
 
 module _ (text : List ℕ) (ts : Tokens) (is : spelled text ≡ Ok ts) where
   -- a text has one list of tokens, so its module derives from that
-  derived : (m : Module) → IsOneCounter text m → Derives ts m
+  derived : (m : Module) → IsOneModule text m → Derives ts m
   derived m i =
       let e : i.tokens ≡ ts = let f = i.is_spelled in cc in
       subst (λ (x : Tokens). Derives x m) e i.derived

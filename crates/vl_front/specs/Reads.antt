@@ -5,7 +5,7 @@ use Rattle.vl_tree.specs.Token.{Tokens}
 use Rattle.vl_tree.specs.Tree.{Module}
 use Rattle.vl_meaning.specs.StandsFor.{StandsFor}
 use Rattle.vl_front.specs.Spelled.{Fault, fault, spelled}
-use Rattle.vl_front.specs.OneCounter.{IsDesign, IsNoDesign}
+use Rattle.vl_front.specs.OneModule.{IsDesign, IsNoDesign}
 use Rattle.vl_front.specs.declared.fault.DesignFault.{DesignFault}
 use Rattle.vl_front.specs.declared.fault.DesignFault.TheVariants as f
 

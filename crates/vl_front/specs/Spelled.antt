@@ -38,15 +38,15 @@ token_kind token.open_string = kind.OpenString
 token_kind token.too_many_tokens = kind.TooManyTokens
 
 -- phase 2, by the tokens of a clean text or their first fault
-abbrev pub second : Result Tokens token.Fault → Result Tokens Fault
-second (Ok tokens) = Ok tokens
-second (Err f) = Err (fault 2 f.line (token_kind f.kind))
+abbrev pub by_tokens : Result Tokens token.Fault → Result Tokens Fault
+by_tokens (Ok tokens) = Ok tokens
+by_tokens (Err f) = Err (fault 2 f.line (token_kind f.kind))
 
 -- both phases, by the clean text or its first fault
-abbrev pub first : Result Text clean.Fault → Result Tokens Fault
-first (Ok text) = second (tokens_of text)
-first (Err f) = Err (fault 1 f.line (clean_kind f.kind))
+abbrev pub by_clean_text : Result Text clean.Fault → Result Tokens Fault
+by_clean_text (Ok text) = by_tokens (tokens_of text)
+by_clean_text (Err f) = Err (fault 1 f.line (clean_kind f.kind))
 
 -- the tokens of a text, or its first fault
 abbrev pub spelled : List ℕ → Result Tokens Fault
-spelled text = first (clean_text text)
+spelled text = by_clean_text (clean_text text)

@@ -18,7 +18,7 @@ pub enum DesignFault {
         line: u32,
         kind: FaultKind,
     },
-    /// It has no fault of these phases, but isn't the text of a module with one clocked block, or has another static fault.
+    /// It has no fault of these phases, but isn't the text of a sound module with one clocked block.
     NotYetBuilt,
     /// There wasn't enough memory.
     Memory,

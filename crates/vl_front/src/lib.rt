@@ -3,8 +3,8 @@
 //! Below: `vl_pre` (clean text), `vl_lex` (tokens), `vl_module` (tree), `vl_scope` (static faults), `vl_proc` (numbered design). Above:
 //! `dessert`.
 //! Promise: `read_design` answers the first fault of the clean text or of the tokens, with its line, exactly where there is one
-//! (`specs/Spelled`); of the other texts it accepts exactly those of modules with one clocked block and without static fault
-//! (`specs/OneCounter`), and its design stands for the module (`StandsFor` of `vl_meaning`).
+//! (`specs/Spelled`); of the other texts it accepts exactly those of sound modules with one clocked block
+//! (`specs/OneModule`), and its design stands for the module (`StandsFor` of `vl_meaning`).
 //! Not said: which fault a text has that is refused as `NotYetBuilt`; that memory is enough.
 #![tactic(auto)]
 

@@ -1,4 +1,4 @@
--- The names of the kinds of static faults, as a report has them. This project's own.
+-- The names of the kinds of static faults that the text of a design and its tokens can have, as a report has them. This project's own.
 use Rattle.std.specs.Prelude.{ℕ, List, codes}
 use Rattle.vl_tree.specs.declared.fault.FaultKind.{FaultKind}
 use Rattle.vl_tree.specs.declared.fault.FaultKind.TheVariants as f

@@ -20,7 +20,7 @@ pub enum FaultKind {
     BadByte,
     /// Phase 1: a comment without its end.
     OpenComment,
-    /// Phase 2: no token begins so.
+    /// Phase 2: no token stands there.
     BadToken,
     /// Phase 2: a number that isn't one.
     BadNumber,

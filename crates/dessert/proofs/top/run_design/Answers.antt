@@ -5,7 +5,7 @@ use Rattle.dessert.specs.Answer.{moment}
 use Rattle.dessert.specs.Ended.{status_of}
 use Rattle.dessert.specs.Words.{job}
 use Rattle.dessert.specs.Ran.{RanTo}
-use Rattle.dessert.specs.Settles.{Settles}
+use Rattle.dessert.specs.Written.{RunIsWritten}
 use Rattle.dessert.specs.Writing.{sinks}
 use Rattle.dessert.proofs.TopLaws.{no_memory, origins_are, ran_answers, given_up}
 use Rattle.dessert.proofs.top.run_design.Goals as goal
@@ -23,7 +23,7 @@ returns-in-Ok-run_rows g c = λ m files content told words loads0 loads1 asked l
     ran_answers content told words (moment (g.S.Source.left c.args.stimulus.now) (g.S.Source.faults c.args.stimulus.now) (g.V.Sink.held c.args.out.now) (g.V.Sink.faults c.args.out.now) (g.T.Sink.held c.args.report.now) (g.T.Sink.faults c.args.report.now) loads0)
     (moment (g.S.Source.left c.run_rows.new.source) (g.S.Source.faults c.run_rows.new.source) (g.V.Sink.held c.settle.new.out) (g.V.Sink.faults c.settle.new.out) (g.T.Sink.held c.settle.new.report) (g.T.Sink.faults c.settle.new.report) loads1) (job c.args.lag c.args.origins.now.names) asked
     files m c.args.origins.now c.args.flat.now c.in-Ok-start.run'.flat loaded (origins_are c.args.origins.now files counts) one stands c.in-Ok-start.ensures.flat c.run_rows.new.run (status_of c.settle.result) c.in-Ok-run_rows.ensures.ran
-    (λ rows r. subst (λ (x : Flat). Settles c.args.lag c.args.origins.now x rows c.run_rows.new.run (status_of c.settle.result) (sinks (g.V.Sink.held c.args.out.now) (g.V.Sink.faults c.args.out.now) (g.T.Sink.held c.args.report.now) (g.T.Sink.faults c.args.report.now))
+    (λ rows r. subst (λ (x : Flat). RunIsWritten c.args.lag c.args.origins.now x rows c.run_rows.new.run (status_of c.settle.result) (sinks (g.V.Sink.held c.args.out.now) (g.V.Sink.faults c.args.out.now) (g.T.Sink.held c.args.report.now) (g.T.Sink.faults c.args.report.now))
     (sinks (g.V.Sink.held c.settle.new.out) (g.V.Sink.faults c.settle.new.out) (g.T.Sink.held c.settle.new.report) (g.T.Sink.faults c.settle.new.report))) c.run_rows.ensures.flat
     (c.settle.ensures rows (subst (λ (x : Flat). RanTo x rows c.run_rows.new.run) (sym c.run_rows.ensures.flat) r) (omega (arith, c.run_rows.ensures.period, c.in-Ok-start.ensures.period))))
 

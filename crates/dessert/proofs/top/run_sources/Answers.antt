@@ -2,7 +2,7 @@ use Rattle.std.proofs.Common.{◌≡◌, List, ℕ, length, refl, sym, ap, subst
 use Rattle.std.specs.Prelude.{IfOk}
 use Rattle.std.proofs.KnownBytes.{Keeps-refl}
 use Rattle.vl_front.specs.Spelled.{fault}
-use Rattle.vl_front.specs.OneCounter.{IsDesign}
+use Rattle.vl_front.specs.OneModule.{IsDesign}
 use Rattle.dessert.specs.Answer.{moment}
 use Rattle.dessert.specs.Ended.{status_of}
 use Rattle.dessert.specs.Words.{job}

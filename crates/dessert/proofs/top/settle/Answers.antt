@@ -4,7 +4,7 @@ use Rattle.std.proofs.KnownBytes.{Keeps-refl}
 use Rattle.dessert.specs.Progress.{Failure}
 use Rattle.dessert.specs.Ended.{status_of}
 use Rattle.dessert.specs.Report.{quiet_text}
-use Rattle.dessert.specs.Settles.{out_by, text_by, ended_by}
+use Rattle.dessert.specs.Written.{out_by, text_by, ended_by}
 use Rattle.dessert.specs.Writing.{sinks, Delivered}
 use Rattle.dessert.proofs.Cases.{kept_appends}
 use Rattle.dessert.proofs.top.settle.Goals as goal

@@ -28,8 +28,8 @@ text_by lag path o cycles (Some x) = failure_text x.cycle (map (stop_of path o) 
 text_by lag path o cycles None = quiet_text cycles
 
 -- they were written
-abbrev pub Settles : ℕ → Origins → Flat → List (List ℕ) → Progress → Status → Sinks → Sinks → Type 0
-Settles lag o f rows p result old new =
+abbrev pub RunIsWritten : ℕ → Origins → Flat → List (List ℕ) → Progress → Status → Sinks → Sinks → Type 0
+RunIsWritten lag o f rows p result old new =
     Delivered (out_by lag f rows p.failure) (text_by lag f.name o p.cycles p.failure) (ended_by p.failure) result old new
 
 -- the status and the report of a stimulus that was refused, or whose source failed
