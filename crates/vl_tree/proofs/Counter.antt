@@ -1,7 +1,8 @@
 -- The counter of the worked examples, as a tree.
 use Rattle.std.specs.Prelude.{ℕ, true, false, List, [], ◌∷◌, Some, codes}
+use Rattle.vl_tree.specs.declared.expr.Binary.TheVariants as two
 use Rattle.vl_tree.specs.Token.{Literal}
-use Rattle.vl_tree.specs.Tree.{Operand, name, number, plain, sum, equal, Stmt, block, conditional, assign, display, stop, no_stmt, more_stmt, no_branch, more_branch, no_else, Port, input, output, Module}
+use Rattle.vl_tree.specs.Tree.{Primary, name, number, primary, binary, Stmt, block, conditional, assign, display, stop, no_stmt, more_stmt, no_branch, more_branch, no_else, Port, input, output, Module}
 
 -- 9 and 4'd9
 abbrev pub plain_decimal : ℕ → Literal
@@ -11,7 +12,7 @@ abbrev pub sized_decimal : ℕ → ℕ → Literal
 sized_decimal w n = record { width = w; sized = true; signed = false; value = n; wild = 0 }
 
 -- n as four bits
-abbrev pub four_bits : ℕ → Operand
+abbrev pub four_bits : ℕ → Primary
 four_bits n = number (sized_decimal 4 n)
 
 abbrev pub counter_ports : List Port
@@ -20,13 +21,13 @@ counter_ports = input (codes "clk") ∷ input (codes "rst") ∷ input (codes "en
 -- if (rst) r <= 4'd0; else if (en) r <= r + 4'd1;
 abbrev pub counting : Stmt
 counting = conditional
-    (more_branch (plain (name (codes "rst"))) (assign (codes "r") (plain (four_bits 0)))
-    (more_branch (plain (name (codes "en"))) (assign (codes "r") (sum (name (codes "r")) (four_bits 1))) no_branch)) no_else
+    (more_branch (primary (name (codes "rst"))) (assign (codes "r") (primary (four_bits 0)))
+    (more_branch (primary (name (codes "en"))) (assign (codes "r") (binary (name (codes "r")) two.Add (four_bits 1))) no_branch)) no_else
 
 -- if (r == 4'd9) begin $display("r hit %0d", r); $stop; end, where the stop is on line 9
 abbrev pub asserting : Stmt
 asserting = conditional
-    (more_branch (equal (name (codes "r")) (four_bits 9))
+    (more_branch (binary (name (codes "r")) two.Equal (four_bits 9))
     (block (more_stmt (display (codes "r hit %0d") (Some (codes "r"))) (more_stmt (stop 9) no_stmt))) no_branch) no_else
 
 -- module cnt(input clk, input rst, input en, output reg [3:0] r);

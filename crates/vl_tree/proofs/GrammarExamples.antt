@@ -4,9 +4,11 @@ use Rattle.std.specs.Prelude.{codes}
 use Rattle.vl_tree.specs.declared.token.Key.TheVariants as w
 use Rattle.vl_tree.specs.declared.token.Mark.TheVariants as m
 use Rattle.vl_tree.specs.declared.token.System.TheVariants as s
+use Rattle.vl_tree.specs.declared.expr.Unary.TheVariants as one
+use Rattle.vl_tree.specs.declared.expr.Binary.TheVariants as two
 use Rattle.vl_tree.specs.Token.{Kind, Tokens, token}
 use Rattle.vl_tree.specs.Token as k
-use Rattle.vl_tree.specs.Tree.{name, number, plain, negated, Stmt, block, conditional, assign, no_stmt, more_stmt, no_branch, more_branch, no_else, else_stmt}
+use Rattle.vl_tree.specs.Tree.{name, number, primary, unary, binary, Stmt, block, conditional, assign, no_stmt, more_stmt, no_branch, more_branch, no_else, else_stmt}
 use Rattle.vl_tree.specs.Grammar.{expr_at, NoElse, stmt_at, Derives}
 use Rattle.vl_tree.proofs.Counter.{plain_decimal, sized_decimal, counter}
 
@@ -24,20 +26,20 @@ two_ifs = on 1 (k.key w.If ∷ k.mark m.OpenParen ∷ k.name (codes "a") ∷ k.m
 
 -- x <= n;
 abbrev write : ℕ → Stmt
-write n = assign (codes "x") (plain (number (plain_decimal n)))
+write n = assign (codes "x") (primary (number (plain_decimal n)))
 
 -- the `else` at the inner `if`
 abbrev inner_else : Stmt
-inner_else = conditional (more_branch (plain (name (codes "a")))
-    (conditional (more_branch (plain (name (codes "b"))) (write 1) no_branch) (else_stmt (write 2))) no_branch) no_else
+inner_else = conditional (more_branch (primary (name (codes "a")))
+    (conditional (more_branch (primary (name (codes "b"))) (write 1) no_branch) (else_stmt (write 2))) no_branch) no_else
 
 inner_derives : stmt_at 2 inner_else two_ifs []
 inner_derives = (_, (_, (omega arith, refl)), (_, (_, (_, (omega arith, refl)), (_, (_, (omega arith, refl)), (_, (omega arith, refl)))), (_, (_, (_, (omega arith, refl)), (_, (_, (_, (omega arith, refl)), (_, (_, (omega arith, refl)), (_, (omega arith, refl)))), (_, (_, (_, (omega arith, refl)), (_, (_, (omega arith, refl)), (_, (_, (omega arith, refl)), (_, (omega arith, refl))))), (_, refl, (_, (_, (omega arith, refl)), (refl, (_, (_, (omega arith, refl)), (_, (_, (omega arith, refl)), (_, (_, (omega arith, refl)), (_, (omega arith, refl))))))))))), (_, refl, (refl, tt)))))
 
 -- the `else` at the outer `if`
 abbrev outer_else : Stmt
-outer_else = conditional (more_branch (plain (name (codes "a")))
-    (conditional (more_branch (plain (name (codes "b"))) (write 1) no_branch) no_else) no_branch) (else_stmt (write 2))
+outer_else = conditional (more_branch (primary (name (codes "a")))
+    (conditional (more_branch (primary (name (codes "b"))) (write 1) no_branch) no_else) no_branch) (else_stmt (write 2))
 
 outer_is_refused : stmt_at 2 outer_else two_ifs [] → ⊥
 outer_is_refused (m1, (_, (_, e1)), (m2, (m3, (_, (_, e2)), (m4, (_, (_, e3)), (_, (_, e4)))), (m5, (m6, (_, (_, e5)), (m7, (m8, (_, (_, e6)), (m9, (_, (_, e7)), (_, (_, e8)))), (m10, (m11, (_, (_, e9)), (m12, (_, (_, e10)), (m13, (_, (_, e11)), (_, (_, e12))))), (m14, q1, (q2, n))))), _))) =
@@ -45,7 +47,7 @@ outer_is_refused (m1, (_, (_, e1)), (m2, (m3, (_, (_, e2)), (m4, (_, (_, e3)), (
     (subst NoElse s n) refl
 
 -- an `else` whose statement is an `if` is one branch more, and no last `else`
-if_behind_else_is_refused : (ts rest : Tokens) → stmt_at 2 (conditional (more_branch (plain (name (codes "a"))) (write 1) no_branch) (else_stmt inner_else)) ts rest → ⊥
+if_behind_else_is_refused : (ts rest : Tokens) → stmt_at 2 (conditional (more_branch (primary (name (codes "a"))) (write 1) no_branch) (else_stmt inner_else)) ts rest → ⊥
 if_behind_else_is_refused ts rest (_, _, (_, _, (_, _, (_, _, (_, _, (is_no_if, _)))))) = absurd cc
 
 -- ---- depths
@@ -55,14 +57,36 @@ abbrev not_a : Tokens
 not_a = on 1 (k.mark m.Not ∷ k.name (codes "a") ∷ [])
 
 -- what follows a unary operator is one deeper, so `! a` fits at depth 199 and not at 200, where `a` alone fits
-not_derives : expr_at 199 (negated (name (codes "a"))) not_a []
+not_derives : expr_at 199 (unary one.LogicNot (name (codes "a"))) not_a []
 not_derives = (_, (_, (omega arith, refl)), (_, (omega arith, refl)))
 
-not_is_too_deep : expr_at 200 (negated (name (codes "a"))) not_a [] → ⊥
+not_is_too_deep : expr_at 200 (unary one.LogicNot (name (codes "a"))) not_a [] → ⊥
 not_is_too_deep (_, _, (_, (fits, _))) = absurd (omega (arith, fits))
 
-name_derives : expr_at 200 (plain (name (codes "a"))) (on 1 (k.name (codes "a") ∷ [])) []
+name_derives : expr_at 200 (primary (name (codes "a"))) (on 1 (k.name (codes "a") ∷ [])) []
 name_derives = (_, (omega arith, refl))
+
+-- ---- operators between operands
+
+-- a + b, and a == b
+abbrev a_plus_b : Tokens
+a_plus_b = on 1 (k.name (codes "a") ∷ k.mark m.Plus ∷ k.name (codes "b") ∷ [])
+
+abbrev a_equals_b : Tokens
+a_equals_b = on 1 (k.name (codes "a") ∷ k.mark m.EqualEqual ∷ k.name (codes "b") ∷ [])
+
+-- both operands stand at the depth of the operator
+sum_derives : expr_at 200 (binary (name (codes "a")) two.Add (name (codes "b"))) a_plus_b []
+sum_derives = (_, (_, (omega arith, refl)), (_, (_, (omega arith, refl)), (_, (omega arith, refl))))
+
+equality_derives : expr_at 200 (binary (name (codes "a")) two.Equal (name (codes "b"))) a_equals_b []
+equality_derives = (_, (_, (omega arith, refl)), (_, (_, (omega arith, refl)), (_, (omega arith, refl))))
+
+-- each mark is one operator's
+sum_is_no_equality : (rest : Tokens) → expr_at 2 (binary (name (codes "a")) two.Equal (name (codes "b"))) a_plus_b rest → ⊥
+sum_is_no_equality rest (_, (_, (_, e)), (_, (_, (_, f)), _)) = absurd cc
+
+-- ---- statements and depths
 
 -- begin end
 abbrev empty_block : Tokens

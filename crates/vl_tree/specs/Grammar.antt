@@ -6,9 +6,13 @@ use Rattle.vl_tree.specs.declared.token.Key.TheVariants as w
 use Rattle.vl_tree.specs.declared.token.Mark.{Mark}
 use Rattle.vl_tree.specs.declared.token.Mark.TheVariants as m
 use Rattle.vl_tree.specs.declared.token.System.TheVariants as s
+use Rattle.vl_tree.specs.declared.expr.Unary.{Unary}
+use Rattle.vl_tree.specs.declared.expr.Unary.TheVariants as one
+use Rattle.vl_tree.specs.declared.expr.Binary.{Binary}
+use Rattle.vl_tree.specs.declared.expr.Binary.TheVariants as two
 use Rattle.vl_tree.specs.Token.{Kind, Token, token, Tokens, kind_of}
 use Rattle.vl_tree.specs.Token as k
-use Rattle.vl_tree.specs.Tree.{Text, Operand, name, number, Expr, plain, sum, equal, negated, Stmt, block, conditional, assign, display, stop, Stmts, no_stmt, more_stmt, Branches, no_branch, more_branch, Otherwise, no_else, else_stmt, Port, input, output, Module}
+use Rattle.vl_tree.specs.Tree.{Text, Primary, name, number, Expr, primary, unary, binary, Stmt, block, conditional, assign, display, stop, Stmts, no_stmt, more_stmt, Branches, no_branch, more_branch, Otherwise, no_else, else_stmt, Port, input, output, Module}
 
 -- ---- pieces
 
@@ -52,16 +56,25 @@ name_at d n = kind d (k.name n)
 
 -- ---- expressions
 
-abbrev pub operand_at : ℕ → Operand → Piece
-operand_at d (name n) = name_at d n
-operand_at d (number l) = kind d (k.number l)
+-- the mark of an operator before its operand (A.8.6)
+abbrev pub unary_mark : Unary → Mark
+unary_mark one.LogicNot = m.Not
 
--- expr = prim | prim "+" prim | prim "==" prim | "!" prim; what follows a unary operator is enclosed by it
+-- the mark of an operator between its operands (A.8.6)
+abbrev pub binary_mark : Binary → Mark
+binary_mark two.Add = m.Plus
+binary_mark two.Equal = m.EqualEqual
+
+-- primary = ID | NUM
+abbrev pub primary_at : ℕ → Primary → Piece
+primary_at d (name n) = name_at d n
+primary_at d (number l) = kind d (k.number l)
+
+-- expr = primary | unary primary | primary binary primary; what follows a unary operator is enclosed by it
 abbrev pub expr_at : ℕ → Expr → Piece
-expr_at d (plain a) = operand_at d a
-expr_at d (sum a b) = operand_at d a then mark d m.Plus then operand_at d b
-expr_at d (equal a b) = operand_at d a then mark d m.EqualEqual then operand_at d b
-expr_at d (negated a) = mark d m.Not then operand_at (d + 1) a
+expr_at d (primary a) = primary_at d a
+expr_at d (unary op a) = mark d (unary_mark op) then primary_at (d + 1) a
+expr_at d (binary a op b) = primary_at d a then mark d (binary_mark op) then primary_at d b
 
 -- ---- statements
 

@@ -1,22 +1,24 @@
--- The syntax tree of a module with one clocked block, as plain data: one constructor for each alternative of the grammar.
+-- The syntax tree of a module with one clocked block (IEEE 1364-2005, annex A, cut down), as plain data: one constructor for each
+-- alternative of the grammar.
 -- Lists inside a type that is defined with them are types of their own, `no_x` and `more_x`.
 use Rattle.std.specs.Prelude.{ℕ, List, Option}
+use Rattle.vl_tree.specs.declared.expr.Unary.{Unary}
+use Rattle.vl_tree.specs.declared.expr.Binary.{Binary}
 use Rattle.vl_tree.specs.Token.{Literal}
 
 abbrev pub Text : Type 0
 Text = List ℕ
 
--- what an operator stands beside
-pub data Operand : Type 0 where
-  name : Text → Operand
-  number : Literal → Operand
+-- what an operator stands beside (A.8.4)
+pub data Primary : Type 0 where
+  name : Text → Primary
+  number : Literal → Primary
 
--- an operand, a + b, a == b, or !a
+-- a primary, an operator before one, or an operator between two (A.8.3); the operators are those of the code
 pub data Expr : Type 0 where
-  plain : Operand → Expr
-  sum : Operand → Operand → Expr
-  equal : Operand → Operand → Expr
-  negated : Operand → Expr
+  primary : Primary → Expr
+  unary : Unary → Primary → Expr
+  binary : Primary → Binary → Primary → Expr
 
 mutual
   pub data Stmt : Type 0 where

@@ -1,9 +1,9 @@
 -- The plain tree of each tree of the code.
 use Rattle.std.specs.Prelude.{List, [], ◌∷◌, Option, Some, None, map}
-use Rattle.vl_tree.specs.declared.tree.Operand as operand_code
-use Rattle.vl_tree.specs.declared.tree.Operand.TheVariants as o
-use Rattle.vl_tree.specs.declared.tree.Expr as expr_code
-use Rattle.vl_tree.specs.declared.tree.Expr.TheVariants as e
+use Rattle.vl_tree.specs.declared.expr.Primary as primary_code
+use Rattle.vl_tree.specs.declared.expr.Primary.TheVariants as a
+use Rattle.vl_tree.specs.declared.expr.Expr as expr_code
+use Rattle.vl_tree.specs.declared.expr.Expr.TheVariants as e
 use Rattle.vl_tree.specs.declared.tree.Branch as branch_code
 use Rattle.vl_tree.specs.declared.tree.Stmt as stmt_code
 use Rattle.vl_tree.specs.declared.tree.Stmt.TheOpen.{Stmt-F}
@@ -12,17 +12,17 @@ use Rattle.vl_tree.specs.declared.tree.Port as port_code
 use Rattle.vl_tree.specs.declared.tree.Port.TheVariants as p
 use Rattle.vl_tree.specs.declared.tree.Module as module_code
 use Rattle.vl_tree.specs.Token.{literal_of}
-use Rattle.vl_tree.specs.Tree.{Operand, name, number, Expr, plain, sum, equal, negated, Stmt, block, conditional, assign, display, stop, Stmts, no_stmt, more_stmt, Branches, no_branch, more_branch, Otherwise, no_else, else_stmt, Port, input, output, Module}
+use Rattle.vl_tree.specs.Tree as tree
+use Rattle.vl_tree.specs.Tree.{Primary, Expr, Stmt, block, conditional, assign, display, stop, Stmts, no_stmt, more_stmt, Branches, no_branch, more_branch, Otherwise, no_else, else_stmt, Port, input, output, Module}
 
-abbrev pub operand : operand_code.Operand → Operand
-operand (o.Name n) = name n
-operand (o.Number l) = number (literal_of l)
+abbrev pub primary : primary_code.Primary → Primary
+primary (a.Name n) = tree.name n
+primary (a.Number l) = tree.number (literal_of l)
 
 abbrev pub expr : expr_code.Expr → Expr
-expr (e.Plain a) = plain (operand a)
-expr (e.Sum a b) = sum (operand a) (operand b)
-expr (e.Equal a b) = equal (operand a) (operand b)
-expr (e.Not a) = negated (operand a)
+expr (e.Primary x) = tree.primary (primary x)
+expr (e.Unary op x) = tree.unary op (primary x)
+expr (e.Binary x op y) = tree.binary (primary x) op (primary y)
 
 -- lists whose parts are plain trees already
 abbrev pub joined_stmts : List Stmt → Stmts

@@ -6,6 +6,7 @@
 //! `specs/Token` and `specs/Tree` have the same as plain data; `specs/Grammar` says which tokens are a tree's.
 #![tactic(auto)]
 
+pub mod expr;
 pub mod fault;
 pub mod token;
 pub mod tree;

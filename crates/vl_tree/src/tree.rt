@@ -1,24 +1,9 @@
 //! Syntax trees of a module with one clocked block.
 
+use crate::expr::Expr;
 use crate::token::Literal;
 use dt_core::text::Text;
 use sqlite_items::{Boxed, Items};
-
-/// What an operator stands beside: a name or a number.
-#[derive(Debug, Drop)]
-pub enum Operand {
-    Name(Text),
-    Number(Literal),
-}
-
-/// An expression: an operand, `a + b`, `a == b`, or `!a`.
-#[derive(Debug, Drop)]
-pub enum Expr {
-    Plain(Operand),
-    Sum(Operand, Operand),
-    Equal(Operand, Operand),
-    Not(Operand),
-}
 
 /// A condition of an `if` or an `else if`, and the statement where it is the first that holds.
 #[derive(Debug, Drop)]
