@@ -4,7 +4,7 @@ use Rattle.std.specs.Prelude.{Option, Some, None}
 use Rattle.vl_tree.specs.declared.tree.Stmt.{Stmt as Code, the_lemmas}
 use Rattle.vl_tree.specs.declared.tree.Stmt.TheVariants as s
 use Rattle.vl_tree.specs.declared.tree.Branch.{Branch}
-use Rattle.vl_tree.specs.declared.tree.Expr.{Expr as ExprCode}
+use Rattle.vl_tree.specs.declared.expr.Expr.{Expr as ExprCode}
 use Rattle.vl_tree.specs.Tree.{Text, Stmt, Stmts, Branches, block, conditional, assign, display, stop, no_stmt, more_stmt, no_branch, more_branch, no_else, else_stmt}
 use Rattle.vl_tree.specs.View.{stmt, stmts, branches, otherwise, expr, joined_stmts, joined_branches}
 

@@ -46,6 +46,11 @@ abbrev pub Finds : Piece → Tokens → Option (Bor (List declared.Token)) → T
 Finds p ts (Some rest) = Took (one p) Any tt ts (all_coded rest.now)
 Finds p ts None = NoTree (one p) Any ts
 
+-- the tree that comes first and the tokens behind it, or that none comes first
+abbrev pub FindsTree : {X N : Type 0} → (X → N) → (N → Tokens → Tokens → Type 0) → Tokens → Option (X × Bor (List declared.Token)) → Type 0
+FindsTree view D ts (Some x) = Took D Any (view x.0) ts (all_coded x.1.now)
+FindsTree view D ts None = NoTree D Any ts
+
 -- no token stands at this depth
 abbrev pub NoToken : ℕ → Tokens → Type 0
 NoToken d ts = (a : Token) (us : Tokens) → d ≤ 200 → ts ≡ a ∷ us → ⊥

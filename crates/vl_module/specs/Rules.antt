@@ -1,10 +1,12 @@
 -- The parts of the grammar's rules that one reader reads at a time, with the trees of a part as a pair. This project's own.
-use Rattle.std.specs.Prelude.{ℕ, ◌+◌, ◌≡◌, ◌∷◌, [], List, Option, map, Vec}
+use Rattle.std.specs.Prelude.{ℕ, ◌+◌, ◌≡◌, ◌∷◌, [], List, Option, Some, None, map, Vec}
 use Rattle.vl_tree.specs.declared.token.Key.TheVariants as w
+use Rattle.vl_tree.specs.declared.token.Mark.{Mark}
 use Rattle.vl_tree.specs.declared.token.Mark.TheVariants as m
 use Rattle.vl_tree.specs.declared.token.System.TheVariants as s
 use Rattle.vl_tree.specs.declared.token.Literal as literal_code
-use Rattle.vl_tree.specs.declared.tree.Expr as expr_code
+use Rattle.vl_tree.specs.declared.expr.Expr as expr_code
+use Rattle.vl_tree.specs.declared.expr.Binary.{Binary}
 use Rattle.vl_tree.specs.declared.tree.Branch as branch_code
 use Rattle.vl_tree.specs.declared.tree.Stmt as stmt_code
 use Rattle.vl_tree.specs.declared.tree.Port as port_code
@@ -12,17 +14,26 @@ use Rattle.vl_tree.specs.Token.{Literal, Kind, Tokens, token, kind_of, literal_o
 use Rattle.vl_tree.specs.Token as k
 use Rattle.vl_tree.specs.Tree.{Text, Expr, Stmt, Stmts, Branches, no_branch, more_branch, Otherwise, Port}
 use Rattle.vl_tree.specs.View as view
-use Rattle.vl_tree.specs.Grammar.{Piece, nowhere, ◌then◌, kind, kind_on, word, mark, name_at, expr_at, condition_at, shown_at, stmt_at, stmts_at, branches_at, otherwise_at, ports_at}
+use Rattle.vl_tree.specs.Grammar.{Piece, nowhere, ◌then◌, kind, kind_on, word, mark, name_at, binary_mark, expr_at, condition_at, shown_at, stmt_at, stmts_at, branches_at, otherwise_at, ports_at}
 use Rattle.vl_module.specs.Reading.{Any, NoTree}
 use Rattle.vl_module.specs.declared.stmt.Start.{Start}
 use Rattle.vl_module.specs.declared.stmt.Start.TheVariants as start
 
 -- ---- expressions
 
--- neither `+` nor `==` comes next, which would go on with an operand
+-- the one operator that a table gives this mark, or that it gives the mark to none
+abbrev pub IsOperator : {O : Type 0} → (O → Mark) → Mark → Option O → Type 0
+IsOperator table a (Some op) = (table op ≡ a) × ((other : _) → table other ≡ a → other ≡ op)
+IsOperator table a None = (op : _) → table op ≡ a → ⊥
+
+-- a token of an operator's mark, at this depth
+abbrev pub operator_at : {O : Type 0} → (O → Mark) → ℕ → O → Piece
+operator_at table d op = mark d (table op)
+
+-- no operator comes next, which would go on with an operand
 abbrev pub Ends : Tokens → Type 0
 Ends [] = Unit {0}
-Ends (a ∷ rest) = (kind_of a ≡ k.mark m.Plus → ⊥) × (kind_of a ≡ k.mark m.EqualEqual → ⊥)
+Ends (a ∷ rest) = (op : Binary) → kind_of a ≡ k.mark (binary_mark op) → ⊥
 
 -- ---- statements
 

@@ -1,26 +1,68 @@
-//! Expressions: a name or a number, a sum or an equality of two, a negation; and a condition, an expression in parentheses.
+//! Expressions: a primary, an operator before one, or an operator between two; and a condition, an expression in parentheses.
 
-ghost use Rattle.std.specs.Prelude.{◌+◌, ◌<◌, ◌≤◌, IfOk, length};
+ghost use Rattle.std.specs.Prelude.{◌+◌, ◌<◌, ◌≤◌, IfOk, IfSome, length};
 ghost use Rattle.vl_tree.specs.Token.{all_coded};
 ghost use Rattle.vl_tree.specs.View as view;
-ghost use Rattle.vl_tree.specs.Grammar.{operand_at, expr_at, condition_at};
-ghost use Rattle.vl_module.specs.Reading.{Any, Reads};
-ghost use Rattle.vl_module.specs.Rules.{Ends};
+ghost use Rattle.vl_tree.specs.Grammar.{unary_mark, binary_mark, primary_at, expr_at, condition_at};
+ghost use Rattle.vl_module.specs.Reading.{Any, Reads, FindsTree};
+ghost use Rattle.vl_module.specs.Rules.{IsOperator, operator_at, Ends};
 
 use crate::SynFault;
-use crate::tokens::{behind_mark, expect_mark, next};
+use crate::tokens::{expect_mark, first_mark, next};
 use dt_core::text::Text;
 use std::alloc::Global;
+use vl_tree::expr::{Binary, Expr, Primary, Unary};
 use vl_tree::token::{Mark, Token, TokenKind};
-use vl_tree::tree::{Expr, Operand};
+
+// The operator before an operand that a mark is.
+fn unary_of(mark: Mark) -> Option<Unary>
+    ensures { IsOperator unary_mark mark result }
+{
+    match mark {
+        Mark::Not => Some(Unary::LogicNot),
+        _ => None,
+    }
+}
+
+// The operator between operands that a mark is.
+fn binary_of(mark: Mark) -> Option<Binary>
+    ensures { IsOperator binary_mark mark result }
+{
+    match mark {
+        Mark::Plus => Some(Binary::Add),
+        Mark::EqualEqual => Some(Binary::Equal),
+        _ => None,
+    }
+}
+
+// The operator before an operand that comes first, and the tokens behind it.
+fn first_unary(tokens: &[Token], depth: u32) -> Option<(Unary, &[Token])>
+    ensures reads { FindsTree (λ op. op) (operator_at unary_mark depth) (all_coded tokens.now) result }
+    ensures shorter { IfSome result (λ x. length x.1.now < length tokens.now) }
+    ensures shallow { IfSome result (λ x. depth ≤ 200) }
+{
+    let (mark, rest) = first_mark(tokens, depth)?;
+    let operator = unary_of(mark)?;
+    Some((operator, rest))
+}
+
+// The operator between operands that comes first, and the tokens behind it.
+fn first_binary(tokens: &[Token], depth: u32) -> Option<(Binary, &[Token])>
+    ensures reads { FindsTree (λ op. op) (operator_at binary_mark depth) (all_coded tokens.now) result }
+    ensures shorter { IfSome result (λ x. length x.1.now < length tokens.now) }
+{
+    let (mark, rest) = first_mark(tokens, depth)?;
+    let operator = binary_of(mark)?;
+    Some((operator, rest))
+}
 
 /// A name or a number.
-pub fn read_operand(
+pub fn read_primary(
     alloc: Global,
     tokens: &[Token],
     depth: u32,
-) -> Result<(Operand, &[Token]), SynFault>
-    ensures reads { Reads view.operand (operand_at depth) Any (all_coded tokens.now) result }
+) -> Result<(Primary, &[Token]), SynFault>
+    ensures reads { Reads view.primary (primary_at depth) Any (all_coded tokens.now) result }
     ensures shorter { IfOk result (λ x. length x.1.now < length tokens.now) }
 {
     let Some((first, rest)) = next(tokens, depth) else {
@@ -29,32 +71,28 @@ pub fn read_operand(
     match &first.kind {
         TokenKind::Name(name) => {
             let copy = Text::copied(alloc, name.bytes())?;
-            Ok((Operand::Name(copy), rest))
+            Ok((Primary::Name(copy), rest))
         }
-        TokenKind::Number(literal) => Ok((Operand::Number(*literal), rest)),
+        TokenKind::Number(literal) => Ok((Primary::Number(*literal), rest)),
         _ => Err(SynFault::NoTree),
     }
 }
 
-/// An expression, behind which neither `+` nor `==` comes.
+/// An expression, behind which no operator comes.
 pub fn read_expr(alloc: Global, tokens: &[Token], depth: u32) -> Result<(Expr, &[Token]), SynFault>
     ensures reads { Reads view.expr (expr_at depth) Ends (all_coded tokens.now) result }
     ensures shorter { IfOk result (λ x. length x.1.now < length tokens.now) }
 {
-    if let Some(inner) = behind_mark(tokens, depth, Mark::Not) {
-        let (operand, rest) = read_operand(alloc, inner, depth + 1)?;
-        return Ok((Expr::Not(operand), rest));
+    if let Some((operator, inner)) = first_unary(tokens, depth) {
+        let (operand, rest) = read_primary(alloc, inner, depth + 1)?;
+        return Ok((Expr::Unary(operator, operand), rest));
     }
-    let (left, after) = read_operand(alloc, tokens, depth)?;
-    if let Some(inner) = behind_mark(after, depth, Mark::Plus) {
-        let (right, rest) = read_operand(alloc, inner, depth)?;
-        return Ok((Expr::Sum(left, right), rest));
+    let (left, after) = read_primary(alloc, tokens, depth)?;
+    if let Some((operator, inner)) = first_binary(after, depth) {
+        let (right, rest) = read_primary(alloc, inner, depth)?;
+        return Ok((Expr::Binary(left, operator, right), rest));
     }
-    if let Some(inner) = behind_mark(after, depth, Mark::EqualEqual) {
-        let (right, rest) = read_operand(alloc, inner, depth)?;
-        return Ok((Expr::Equal(left, right), rest));
-    }
-    Ok((Expr::Plain(left), after))
+    Ok((Expr::Primary(left), after))
 }
 
 /// An expression in parentheses.

@@ -16,8 +16,9 @@ use crate::tokens::{
 use dt_core::text::Text;
 use sqlite_items::{Boxed, Items};
 use std::alloc::Global;
+use vl_tree::expr::Expr;
 use vl_tree::token::{Key, Mark, System, Token, TokenKind};
-use vl_tree::tree::{Branch, Expr, Stmt};
+use vl_tree::tree::{Branch, Stmt};
 
 /// What a statement begins with; `Nothing` is what none begins with.
 #[derive(Clone, Copy, Debug, PartialEq, Eq)]

@@ -3,8 +3,9 @@
 use super::*;
 use dt_core::text::Text;
 use std::test::Fail;
+use vl_tree::expr::{Binary, Expr, Primary};
 use vl_tree::token::{Key, Literal, Mark, System, TokenKind};
-use vl_tree::tree::{Branch, Expr, Operand, Port, Stmt};
+use vl_tree::tree::{Branch, Port, Stmt};
 
 const KEYS: [(&str, Key); 11] = [
     ("module", Key::Module),
@@ -172,8 +173,8 @@ fn reads_the_counter(rt: HostRuntime) -> Result<(), Fail> {
     let [
         _,
         Branch {
-            condition: Expr::Plain(Operand::Name(en)),
-            body: Stmt::Assign(_, Expr::Sum(_, _)),
+            condition: Expr::Primary(Primary::Name(en)),
+            body: Stmt::Assign(_, Expr::Binary(_, Binary::Add, _)),
         },
     ] = steps.as_slice()
     else {
@@ -182,7 +183,7 @@ fn reads_the_counter(rt: HostRuntime) -> Result<(), Fail> {
     assert_eq!(rt; en.bytes(), b"en".as_slice());
     let [
         Branch {
-            condition: Expr::Equal(_, _),
+            condition: Expr::Binary(_, Binary::Equal, _),
             body: Stmt::Block(block),
         },
     ] = hits.as_slice()

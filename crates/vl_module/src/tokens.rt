@@ -5,7 +5,7 @@ ghost use Rattle.vl_tree.specs.Token.{all_coded, literal_of};
 ghost use Rattle.vl_tree.specs.Token as k;
 ghost use Rattle.vl_tree.specs.Grammar.{mark, word, kind, kind_on, name_at};
 ghost use Rattle.vl_module.specs.declared.SynFault.TheVariants as fault;
-ghost use Rattle.vl_module.specs.Reading.{Any, Reads, Expects, Finds, NoToken};
+ghost use Rattle.vl_module.specs.Reading.{Any, Reads, Expects, Finds, FindsTree, NoToken};
 
 use crate::SynFault;
 use dt_core::limits::MAX_DEPTH;
@@ -79,6 +79,19 @@ pub fn behind_mark(tokens: &[Token], depth: u32, wanted: Mark) -> Option<&[Token
                 None
             }
         }
+        _ => None,
+    }
+}
+
+/// The mark that comes first, and the tokens behind it.
+pub fn first_mark(tokens: &[Token], depth: u32) -> Option<(Mark, &[Token])>
+    ensures reads { FindsTree (λ a. a) (mark depth) (all_coded tokens.now) result }
+    ensures shorter { IfSome result (λ x. length x.1.now < length tokens.now) }
+    ensures shallow { IfSome result (λ x. depth ≤ 200) }
+{
+    let (first, rest) = next(tokens, depth)?;
+    match first.kind {
+        TokenKind::Mark(mark) => Some((mark, rest)),
         _ => None,
     }
 }
