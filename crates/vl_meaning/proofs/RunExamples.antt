@@ -3,7 +3,8 @@ use Rattle.std.specs.Prelude.{◌≡◌, refl, ℕ, Bool, true, false, List, [],
 use Rattle.std.specs.Fmt.{digits}
 use Rattle.flat_ir.specs.Fired.{Fired}
 use Rattle.vl_tree.specs.Token.{Literal}
-use Rattle.vl_tree.specs.Tree.{Text, name, plain, sum, Stmt, conditional, assign, display, stop, Stmts, no_stmt, more_stmt, no_branch, more_branch, no_else, else_stmt, Port, input, output, Module}
+use Rattle.vl_tree.specs.declared.expr.Binary.TheVariants as two
+use Rattle.vl_tree.specs.Tree.{Text, name, primary, binary, Stmt, conditional, assign, display, stop, Stmts, no_stmt, more_stmt, no_branch, more_branch, no_else, else_stmt, Port, input, output, Module}
 use Rattle.vl_tree.proofs.Counter.{plain_decimal, sized_decimal, four_bits, counter}
 use Rattle.vl_meaning.specs.Objects.{bound, port_width, data_inputs, registers}
 use Rattle.vl_meaning.specs.Faults.{are_few, stmts_count, is_short, is_sound}
@@ -116,10 +117,10 @@ r_and_s a b = cell (codes "r") a ∷ cell (codes "s") b ∷ []
 
 -- x <= n; and x <= y;
 abbrev write : Text → ℕ → Stmt
-write x n = assign x (plain (four_bits n))
+write x n = assign x (primary (four_bits n))
 
 abbrev copy : Text → Text → Stmt
-copy x y = assign x (plain (name y))
+copy x y = assign x (primary (name y))
 
 -- $display("text");
 abbrev show : Text → Stmt
@@ -144,13 +145,13 @@ values_before_the_block : after (copy (codes "r") (codes "s") ∷ copy (codes "s
 values_before_the_block = refl
 
 -- r <= 3; s <= r + 4'd1;
-write_is_not_read : after (write (codes "r") 3 ∷ assign (codes "s") (sum (name (codes "r")) (four_bits 1)) ∷ []) ≡ r_and_s 3 2
+write_is_not_read : after (write (codes "r") 3 ∷ assign (codes "s") (binary (name (codes "r")) two.Add (four_bits 1)) ∷ []) ≡ r_and_s 3 2
 write_is_not_read = refl
 
 -- if (d) r <= 3; else if (d) r <= 4; else r <= 5;
 abbrev choosing : Stmt
-choosing = conditional (more_branch (plain (name (codes "d"))) (write (codes "r") 3)
-    (more_branch (plain (name (codes "d"))) (write (codes "r") 4) no_branch)) (else_stmt (write (codes "r") 5))
+choosing = conditional (more_branch (primary (name (codes "d"))) (write (codes "r") 3)
+    (more_branch (primary (name (codes "d"))) (write (codes "r") 4) no_branch)) (else_stmt (write (codes "r") 5))
 
 first_branch_that_holds : after (choosing ∷ []) ≡ r_and_s 3 2
 first_branch_that_holds = refl
@@ -263,7 +264,7 @@ reads_an_input = refl
 reads_the_clock : are_sound (copy (codes "r") (codes "clk") ∷ []) ≡ false
 reads_the_clock = refl
 
-clock_in_condition : are_sound (conditional (more_branch (plain (name (codes "clk"))) (write (codes "r") 1) no_branch) no_else ∷ []) ≡ false
+clock_in_condition : are_sound (conditional (more_branch (primary (name (codes "clk"))) (write (codes "r") 1) no_branch) no_else ∷ []) ≡ false
 clock_in_condition = refl
 
 -- d <= 1; and clk <= 1; (BadTarget)

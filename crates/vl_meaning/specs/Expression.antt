@@ -3,7 +3,11 @@
 -- the context in which it stands (5.5.2). Operands that the standard calls context-determined are evaluated at the context's width and sign.
 use Rattle.std.specs.Prelude.{ℕ, ◌==◌, Bool, false, ◌&&◌, max, if◌then◌else◌, List, [], ◌∷◌, bytes_eq}
 use Rattle.bit_ops.specs.Operators as ops
-use Rattle.vl_tree.specs.Tree.{Text, Operand, name, number, Expr, plain, sum, equal, negated, Port}
+use Rattle.vl_tree.specs.declared.expr.Unary.{Unary}
+use Rattle.vl_tree.specs.declared.expr.Unary.TheVariants as one
+use Rattle.vl_tree.specs.declared.expr.Binary.{Binary}
+use Rattle.vl_tree.specs.declared.expr.Binary.TheVariants as two
+use Rattle.vl_tree.specs.Tree.{Text, Primary, name, number, Expr, primary, unary, binary, Port}
 use Rattle.vl_meaning.specs.Objects.{width_of}
 
 -- ---- values: a finite map from names to numbers
@@ -49,25 +53,37 @@ abbrev pub test : Bool → Meaning
 test b = of_number 1 false (ops.bit b)
 
 -- a name is unsigned here, since no declaration has a sign
-abbrev pub operand_meaning : Context → Operand → Meaning
-operand_meaning c (name x) = of_number (width_of c.ports x) false (value_at c.values x)
-operand_meaning c (number l) = of_number l.width l.signed l.value
+abbrev pub primary_meaning : Context → Primary → Meaning
+primary_meaning c (name x) = of_number (width_of c.ports x) false (value_at c.values x)
+primary_meaning c (number l) = of_number l.width l.signed l.value
 
 -- ---- operators: a row of table 5-22 each
 
--- both operands at the context's width and sign
+-- the operand at its own width and sign (5.1.9)
+abbrev pub logically_negated : Meaning → Meaning
+logically_negated a = test (own a == 0)
+
+-- both operands at the context's width and sign (5.1.5)
 abbrev pub summed : Meaning → Meaning → Meaning
 summed a b = record { width = max a.width b.width; signed = a.signed && b.signed; at = λ w s. ops.add w (a.at w s) (b.at w s) }
 
--- both operands at the larger of their widths, signed where both are
+-- both operands at the larger of their widths, signed where both are (5.1.8)
 abbrev pub compared : Meaning → Meaning → Meaning
 compared a b =
     let w : ℕ = max a.width b.width in
     let s : Bool = a.signed && b.signed in
     test (a.at w s == b.at w s)
 
+abbrev pub unary_meaning : Unary → Meaning → Meaning
+unary_meaning one.LogicNot a = logically_negated a
+
+abbrev pub binary_meaning : Binary → Meaning → Meaning → Meaning
+binary_meaning two.Add a b = summed a b
+binary_meaning two.Equal a b = compared a b
+
+-- ---- expressions
+
 abbrev pub meaning : Context → Expr → Meaning
-meaning c (plain a) = operand_meaning c a
-meaning c (sum a b) = summed (operand_meaning c a) (operand_meaning c b)
-meaning c (equal a b) = compared (operand_meaning c a) (operand_meaning c b)
-meaning c (negated a) = test (own (operand_meaning c a) == 0)
+meaning c (primary a) = primary_meaning c a
+meaning c (unary op a) = unary_meaning op (primary_meaning c a)
+meaning c (binary a op b) = binary_meaning op (primary_meaning c a) (primary_meaning c b)

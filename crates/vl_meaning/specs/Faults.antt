@@ -4,7 +4,7 @@ use Rattle.std.specs.Prelude.{ℕ, ◌+◌, ◌==◌, nat_le, Bool, true, false,
 use Rattle.std.specs.List.{list_all}
 use Rattle.flat_ir.specs.Format.{items}
 use Rattle.vl_tree.specs.Token.{Literal}
-use Rattle.vl_tree.specs.Tree.{Text, Operand, name, number, Expr, plain, sum, equal, negated, Stmt, block, conditional, assign, display, stop, Stmts, no_stmt, more_stmt, Branches, no_branch, more_branch, Otherwise, no_else, else_stmt, Port, input, output, Module}
+use Rattle.vl_tree.specs.Tree.{Text, Primary, name, number, Expr, primary, unary, binary, Stmt, block, conditional, assign, display, stop, Stmts, no_stmt, more_stmt, Branches, no_branch, more_branch, Otherwise, no_else, else_stmt, Port, input, output, Module}
 use Rattle.vl_meaning.specs.Objects.{port_name, port_named, bound, port_width, data_inputs}
 
 -- ---- declarations
@@ -62,15 +62,14 @@ shows (Some k) n = k == n
 abbrev pub is_format : Text → ℕ → Bool
 is_format f n = shows (items f) n
 
-abbrev pub is_operand : Module → Operand → Bool
-is_operand m (name x) = is_read m x
-is_operand m (number l) = true
+abbrev pub is_primary : Module → Primary → Bool
+is_primary m (name x) = is_read m x
+is_primary m (number l) = true
 
 abbrev pub is_expr : Module → Expr → Bool
-is_expr m (plain a) = is_operand m a
-is_expr m (sum a b) = is_operand m a && is_operand m b
-is_expr m (equal a b) = is_operand m a && is_operand m b
-is_expr m (negated a) = is_operand m a
+is_expr m (primary a) = is_primary m a
+is_expr m (unary op a) = is_primary m a
+is_expr m (binary a op b) = is_primary m a && is_primary m b
 
 abbrev pub is_display : Module → Text → Option Text → Bool
 is_display m f None = is_format f 0

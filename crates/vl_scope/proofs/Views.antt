@@ -6,7 +6,7 @@ use Rattle.vl_tree.specs.declared.tree.Stmt.{Stmt, the_lemmas}
 use Rattle.vl_tree.specs.declared.tree.Stmt.TheVariants as s
 use Rattle.vl_tree.specs.declared.tree.Branch.{Branch}
 use Rattle.vl_tree.specs.declared.tree.Port.{Port}
-use Rattle.vl_tree.specs.declared.tree.Expr as expr_code
+use Rattle.vl_tree.specs.declared.expr.Expr as expr_code
 use Rattle.vl_tree.specs.Tree as tree
 use Rattle.vl_tree.specs.View.{joined_stmts, joined_branches, joined_else, stmt, stmts, branches, otherwise, expr, port}
 

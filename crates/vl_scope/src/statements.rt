@@ -7,7 +7,8 @@ ghost use Rattle.vl_meaning.specs.Faults as faults;
 use crate::scope::Scope;
 use dt_core::text::Text;
 use flat_ir::format::items;
-use vl_tree::tree::{Branch, Expr, Module, Operand, Port, Stmt};
+use vl_tree::expr::{Expr, Primary};
+use vl_tree::tree::{Branch, Module, Port, Stmt};
 
 /// Whether each of these statements has no fault.
 #[cycle(statements)]
@@ -70,22 +71,21 @@ pub fn is_expr(top: &Module, scope: &Scope<'_>, expr: &Expr) -> bool
     ensures { result ≡ faults.is_expr (view.module_of top.now) (view.expr expr.now) }
 {
     match expr {
-        Expr::Plain(operand) => is_operand(top, scope, operand),
-        Expr::Sum(left, right) => { is_operand(top, scope, left) && is_operand(top, scope, right) }
-        Expr::Equal(left, right) => {
-            is_operand(top, scope, left) && is_operand(top, scope, right)
+        Expr::Primary(primary) => is_primary(top, scope, primary),
+        Expr::Unary(_, operand) => is_primary(top, scope, operand),
+        Expr::Binary(left, _, right) => {
+            is_primary(top, scope, left) && is_primary(top, scope, right)
         }
-        Expr::Not(operand) => is_operand(top, scope, operand),
     }
 }
 
-fn is_operand(top: &Module, scope: &Scope<'_>, operand: &Operand) -> bool
+fn is_primary(top: &Module, scope: &Scope<'_>, primary: &Primary) -> bool
     requires { scope.now ≡ map view.port top.now.ports.items }
-    ensures { result ≡ faults.is_operand (view.module_of top.now) (view.operand operand.now) }
+    ensures { result ≡ faults.is_primary (view.module_of top.now) (view.primary primary.now) }
 {
-    match operand {
-        Operand::Name(name) => is_read(top, scope, name),
-        Operand::Number(_) => true,
+    match primary {
+        Primary::Name(name) => is_read(top, scope, name),
+        Primary::Number(_) => true,
     }
 }
 

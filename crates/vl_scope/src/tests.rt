@@ -10,8 +10,9 @@ use dt_core::text::Text;
 use sqlite_items::{Boxed, Items};
 use std::alloc::Global;
 use std::test::Fail;
+use vl_tree::expr::{Binary, Expr, Primary};
 use vl_tree::token::Literal;
-use vl_tree::tree::{Branch, Expr, Module, Operand, Port, Stmt};
+use vl_tree::tree::{Branch, Module, Port, Stmt};
 
 /// A bound of a range: a plain number, or `4'sd15`, which is -1.
 #[derive(Clone, Copy)]
@@ -99,8 +100,8 @@ fn literal(bound: Bound) -> Literal {
     }
 }
 
-fn name(alloc: Global, name: &[u8]) -> Result<Operand, Fail> {
-    Ok(Operand::Name(Text::copied(alloc, name)?))
+fn name(alloc: Global, name: &[u8]) -> Result<Primary, Fail> {
+    Ok(Primary::Name(Text::copied(alloc, name)?))
 }
 
 fn assign(alloc: Global, target: &[u8], value: Expr) -> Result<Stmt, Fail> {
@@ -125,17 +126,17 @@ fn failure(alloc: Global, case: &Case) -> Result<Stmt, Fail> {
 }
 
 fn chain(alloc: Global, case: &Case) -> Result<Stmt, Fail> {
-    let one = Expr::Sum(name(alloc, b"r")?, Operand::Number(plain(1)));
+    let one = Expr::Binary(name(alloc, b"r")?, Binary::Add, Primary::Number(plain(1)));
     let mut branches = Items::new(alloc);
     branches.push(Branch {
-        condition: Expr::Equal(name(alloc, case.input)?, Operand::Number(plain(1))),
+        condition: Expr::Binary(name(alloc, case.input)?, Binary::Equal, Primary::Number(plain(1))),
         body: assign(alloc, b"r", one)?,
     })?;
     branches.push(Branch {
-        condition: Expr::Equal(name(alloc, case.read)?, Operand::Number(plain(9))),
+        condition: Expr::Binary(name(alloc, case.read)?, Binary::Equal, Primary::Number(plain(9))),
         body: failure(alloc, case)?,
     })?;
-    let zero = Expr::Plain(Operand::Number(plain(0)));
+    let zero = Expr::Primary(Primary::Number(plain(0)));
     let behind = Boxed::new(alloc, assign(alloc, case.target, zero)?)?;
     Ok(Stmt::Conditional(branches, Some(behind)))
 }
