@@ -8,14 +8,16 @@ use Rattle.flat_ir.specs.declared.design.Node.{Node}
 use Rattle.flat_ir.specs.declared.design.Node.TheVariants as n
 use Rattle.flat_ir.specs.FlatRun.{NodeFits, value, values_from}
 use Rattle.flat_ir.specs.Names.{Fit}
-use Rattle.vl_tree.specs.Tree.{Text, Module, Operand, name, Expr, sum, equal, negated}
+use Rattle.vl_tree.specs.declared.expr.Unary.TheVariants as one
+use Rattle.vl_tree.specs.declared.expr.Binary.TheVariants as two
+use Rattle.vl_tree.specs.Tree.{Text, Module, Primary, name, Expr, unary, binary}
 use Rattle.vl_meaning.specs.Objects.{width_of, data_inputs, registers}
-use Rattle.vl_meaning.specs.Faults.{is_operand, are_declared}
-use Rattle.vl_meaning.specs.Expression.{Context, operand_meaning, meaning, test, own, assigned, compared, value_at}
+use Rattle.vl_meaning.specs.Faults.{is_primary, are_declared}
+use Rattle.vl_meaning.specs.Expression.{Context, primary_meaning, meaning, test, own, assigned, logically_negated, summed, compared, value_at}
 use Rattle.vl_meaning.specs.Run.{val}
 use Rattle.vl_meaning.specs.StandsFor.{input_widths, register_widths, by_names}
 use Rattle.vl_proc.specs.Lowers.{bare, context, node_value, Grown, Makes}
-use Rattle.vl_proc.proofs.Values.{added, made_before, made_as, kept, test_at, meaning_below, operand_width_same, width_same, operand_sign_same, sign_same}
+use Rattle.vl_proc.proofs.Values.{added, made_before, made_as, kept, test_at, meaning_below, primary_width_same, width_same, primary_sign_same, sign_same}
 use Rattle.vl_proc.proofs.Sees.{read_below}
 
 -- the last node that was added
@@ -25,73 +27,82 @@ pub added_ok : {E : Type 0} (m : Module) (old mid new : List Node) (x : Node) (v
 added_ok m old mid new x v (Ok k) g e w f h = added m old mid new x k v g e w f h
 added_ok m old mid new x v (Err z) g e w f h = tt
 
-pub operand_name : {E : Type 0} (m : Module) (x : Text) (w : ℕ) (s : Bool) (old new : List Node) (r : Result ℕ E) → are_declared m ≡ true → is_operand m (name x) ≡ true
-    → (operand_meaning (bare m) (name x)).width ≤ w → IfOk r (λ k. Makes m old new k (λ row state. value_at (val m row (by_names m state)) x))
-    → IfOk r (λ k. Makes m old new k (λ row state. (operand_meaning (context m row state) (name x)).at w s))
-operand_name m x w s old new r declared sound wide = IfOk-weaker r (λ k. Makes m old new k (λ row state. value_at (val m row (by_names m state)) x))
-    (λ k. Makes m old new k (λ row state. (operand_meaning (context m row state) (name x)).at w s))
-    (λ k. made_as m old new k (λ row state. value_at (val m row (by_names m state)) x) (λ row state. (operand_meaning (context m row state) (name x)).at w s)
+pub primary_name : {E : Type 0} (m : Module) (x : Text) (w : ℕ) (s : Bool) (old new : List Node) (r : Result ℕ E) → are_declared m ≡ true → is_primary m (name x) ≡ true
+    → (primary_meaning (bare m) (name x)).width ≤ w → IfOk r (λ k. Makes m old new k (λ row state. value_at (val m row (by_names m state)) x))
+    → IfOk r (λ k. Makes m old new k (λ row state. (primary_meaning (context m row state) (name x)).at w s))
+primary_name m x w s old new r declared sound wide = IfOk-weaker r (λ k. Makes m old new k (λ row state. value_at (val m row (by_names m state)) x))
+    (λ k. Makes m old new k (λ row state. (primary_meaning (context m row state) (name x)).at w s))
+    (λ k. made_as m old new k (λ row state. value_at (val m row (by_names m state)) x) (λ row state. (primary_meaning (context m row state) (name x)).at w s)
     (λ row state f g. sym (kept (width_of m.ports x) w (value_at (val m row (by_names m state)) x) wide (read_below m x declared sound row state f g))))
 
 -- two operands, of which the node reads both
-pub sum_made : {E : Type 0} (m : Module) (a b : Operand) (w : ℕ) (s : Bool) (old n1 n2 new : List Node) (i j : ℕ) (r : Result ℕ E) → 1 ≤ w → w ≤ 128
-    → Makes m old n1 i (λ row state. (operand_meaning (context m row state) a).at w s) → Makes m n1 n2 j (λ row state. (operand_meaning (context m row state) b).at w s)
-    → IfOk r (λ k. k ≡ length n2) → OnOk r (new ≡ n2 ++ n.Sum i j w ∷ []) → IfOk r (λ k. Makes m old new k (λ row state. (meaning (context m row state) (sum a b)).at w s))
+pub sum_made : {E : Type 0} (m : Module) (a b : Primary) (w : ℕ) (s : Bool) (old n1 n2 new : List Node) (i j : ℕ) (r : Result ℕ E) → 1 ≤ w → w ≤ 128
+    → Makes m old n1 i (λ row state. (primary_meaning (context m row state) a).at w s) → Makes m n1 n2 j (λ row state. (primary_meaning (context m row state) b).at w s)
+    → IfOk r (λ k. k ≡ length n2) → OnOk r (new ≡ n2 ++ n.Sum i j w ∷ []) → IfOk r (λ k. Makes m old new k (λ row state. (summed (primary_meaning (context m row state) a) (primary_meaning (context m row state) b)).at w s))
 sum_made m a b w s old n1 n2 new i j r low high x y e z =
-    let x' = made_before m old n1 n2 i (λ row state. (operand_meaning (context m row state) a).at w s) x y.grown in
-    added_ok m old n2 new (n.Sum i j w) (λ row state. (meaning (context m row state) (sum a b)).at w s) r x'.grown e z (x'.here, y.here, low, high)
-    (λ row state f g. ap (λ (v : ℕ). add w v (node_value row state n2 j)) (x'.is row state f g) ∙ ap (λ (v : ℕ). add w ((operand_meaning (context m row state) a).at w s) v) (y.is row state f g))
+    let x' = made_before m old n1 n2 i (λ row state. (primary_meaning (context m row state) a).at w s) x y.grown in
+    added_ok m old n2 new (n.Sum i j w) (λ row state. (summed (primary_meaning (context m row state) a) (primary_meaning (context m row state) b)).at w s) r x'.grown e z (x'.here, y.here, low, high)
+    (λ row state f g. ap (λ (v : ℕ). add w v (node_value row state n2 j)) (x'.is row state f g) ∙ ap (λ (v : ℕ). add w ((primary_meaning (context m row state) a).at w s) v) (y.is row state f g))
 
 -- the comparison at the operands' width and sign
-compared_at : (m : Module) (a b : Operand) (w : ℕ) (s : Bool) (c : Context) → c.ports ≡ m.ports → w ≡ max (operand_meaning (bare m) a).width (operand_meaning (bare m) b).width
-    → s ≡ ((operand_meaning (bare m) a).signed && (operand_meaning (bare m) b).signed) → bit ((operand_meaning c a).at w s == (operand_meaning c b).at w s) ≡ own (compared (operand_meaning c a) (operand_meaning c b))
+compared_at : (m : Module) (a b : Primary) (w : ℕ) (s : Bool) (c : Context) → c.ports ≡ m.ports → w ≡ max (primary_meaning (bare m) a).width (primary_meaning (bare m) b).width
+    → s ≡ ((primary_meaning (bare m) a).signed && (primary_meaning (bare m) b).signed) → bit ((primary_meaning c a).at w s == (primary_meaning c b).at w s) ≡ own (compared (primary_meaning c a) (primary_meaning c b))
 compared_at m a b w s c p wide sign =
-    let x : (operand_meaning c a).width ≡ (operand_meaning (bare m) a).width = operand_width_same c (bare m) a p in
-    let y : (operand_meaning c b).width ≡ (operand_meaning (bare m) b).width = operand_width_same c (bare m) b p in
-    let u : (operand_meaning c a).signed ≡ (operand_meaning (bare m) a).signed = operand_sign_same c (bare m) a in
-    let v : (operand_meaning c b).signed ≡ (operand_meaning (bare m) b).signed = operand_sign_same c (bare m) b in
-    let e : w ≡ max (operand_meaning c a).width (operand_meaning c b).width = cc in
-    let d : s ≡ ((operand_meaning c a).signed && (operand_meaning c b).signed) = cc in
-    ap (λ (k : ℕ). bit ((operand_meaning c a).at k s == (operand_meaning c b).at k s)) e
-    ∙ ap (λ (t : Bool). bit ((operand_meaning c a).at (max (operand_meaning c a).width (operand_meaning c b).width) t == (operand_meaning c b).at (max (operand_meaning c a).width (operand_meaning c b).width) t)) d
-    ∙ sym (test_at ((operand_meaning c a).at (max (operand_meaning c a).width (operand_meaning c b).width) ((operand_meaning c a).signed && (operand_meaning c b).signed)
-    == (operand_meaning c b).at (max (operand_meaning c a).width (operand_meaning c b).width) ((operand_meaning c a).signed && (operand_meaning c b).signed)) 1 false (omega arith))
+    let x : (primary_meaning c a).width ≡ (primary_meaning (bare m) a).width = primary_width_same c (bare m) a p in
+    let y : (primary_meaning c b).width ≡ (primary_meaning (bare m) b).width = primary_width_same c (bare m) b p in
+    let u : (primary_meaning c a).signed ≡ (primary_meaning (bare m) a).signed = primary_sign_same c (bare m) a in
+    let v : (primary_meaning c b).signed ≡ (primary_meaning (bare m) b).signed = primary_sign_same c (bare m) b in
+    let e : w ≡ max (primary_meaning c a).width (primary_meaning c b).width = cc in
+    let d : s ≡ ((primary_meaning c a).signed && (primary_meaning c b).signed) = cc in
+    ap (λ (k : ℕ). bit ((primary_meaning c a).at k s == (primary_meaning c b).at k s)) e
+    ∙ ap (λ (t : Bool). bit ((primary_meaning c a).at (max (primary_meaning c a).width (primary_meaning c b).width) t == (primary_meaning c b).at (max (primary_meaning c a).width (primary_meaning c b).width) t)) d
+    ∙ sym (test_at ((primary_meaning c a).at (max (primary_meaning c a).width (primary_meaning c b).width) ((primary_meaning c a).signed && (primary_meaning c b).signed)
+    == (primary_meaning c b).at (max (primary_meaning c a).width (primary_meaning c b).width) ((primary_meaning c a).signed && (primary_meaning c b).signed)) 1 false (omega arith))
 
-pub equal_made : {E : Type 0} (m : Module) (a b : Operand) (w : ℕ) (s : Bool) (old n1 n2 new : List Node) (i j : ℕ) (r : Result ℕ E)
-    → w ≡ max (operand_meaning (bare m) a).width (operand_meaning (bare m) b).width → s ≡ ((operand_meaning (bare m) a).signed && (operand_meaning (bare m) b).signed)
-    → Makes m old n1 i (λ row state. (operand_meaning (context m row state) a).at w s) → Makes m n1 n2 j (λ row state. (operand_meaning (context m row state) b).at w s)
+pub equal_made : {E : Type 0} (m : Module) (a b : Primary) (w : ℕ) (s : Bool) (old n1 n2 new : List Node) (i j : ℕ) (r : Result ℕ E)
+    → w ≡ max (primary_meaning (bare m) a).width (primary_meaning (bare m) b).width → s ≡ ((primary_meaning (bare m) a).signed && (primary_meaning (bare m) b).signed)
+    → Makes m old n1 i (λ row state. (primary_meaning (context m row state) a).at w s) → Makes m n1 n2 j (λ row state. (primary_meaning (context m row state) b).at w s)
     → IfOk r (λ k. k ≡ length n2) → OnOk r (new ≡ n2 ++ n.Equal i j ∷ [])
-    → IfOk r (λ k. Makes m old new k (λ row state. own (compared (operand_meaning (context m row state) a) (operand_meaning (context m row state) b))))
+    → IfOk r (λ k. Makes m old new k (λ row state. own (compared (primary_meaning (context m row state) a) (primary_meaning (context m row state) b))))
 equal_made m a b w s old n1 n2 new i j r wide sign x y e z =
-    let x' = made_before m old n1 n2 i (λ row state. (operand_meaning (context m row state) a).at w s) x y.grown in
-    added_ok m old n2 new (n.Equal i j) (λ row state. own (compared (operand_meaning (context m row state) a) (operand_meaning (context m row state) b))) r x'.grown e z (x'.here, y.here)
+    let x' = made_before m old n1 n2 i (λ row state. (primary_meaning (context m row state) a).at w s) x y.grown in
+    added_ok m old n2 new (n.Equal i j) (λ row state. own (compared (primary_meaning (context m row state) a) (primary_meaning (context m row state) b))) r x'.grown e z (x'.here, y.here)
     (λ row state f g. ap (λ (v : ℕ). bit (v == node_value row state n2 j)) (x'.is row state f g)
-    ∙ ap (λ (v : ℕ). bit ((operand_meaning (context m row state) a).at w s == v)) (y.is row state f g)
+    ∙ ap (λ (v : ℕ). bit ((primary_meaning (context m row state) a).at w s == v)) (y.is row state f g)
     ∙ compared_at m a b w s (context m row state) refl wide sign)
 
 test_same : (b : Bool) (w : ℕ) (s : Bool) → 1 ≤ w → own (test b) ≡ (test b).at w s
 test_same b w s some = test_at b 1 false (omega arith) ∙ sym (test_at b w s some)
 
 -- a test is the same at each width
-pub equal_at : {E : Type 0} (m : Module) (a b : Operand) (w : ℕ) (s : Bool) (old new : List Node) (r : Result ℕ E) → 1 ≤ w
-    → IfOk r (λ k. Makes m old new k (λ row state. own (compared (operand_meaning (context m row state) a) (operand_meaning (context m row state) b))))
-    → IfOk r (λ k. Makes m old new k (λ row state. (meaning (context m row state) (equal a b)).at w s))
-equal_at m a b w s old new r some = IfOk-weaker r (λ k. Makes m old new k (λ row state. own (compared (operand_meaning (context m row state) a) (operand_meaning (context m row state) b))))
-    (λ k. Makes m old new k (λ row state. (meaning (context m row state) (equal a b)).at w s))
-    (λ k. made_as m old new k (λ row state. own (compared (operand_meaning (context m row state) a) (operand_meaning (context m row state) b))) (λ row state. (meaning (context m row state) (equal a b)).at w s)
+pub equal_at : {E : Type 0} (m : Module) (a b : Primary) (w : ℕ) (s : Bool) (old new : List Node) (r : Result ℕ E) → 1 ≤ w
+    → IfOk r (λ k. Makes m old new k (λ row state. own (compared (primary_meaning (context m row state) a) (primary_meaning (context m row state) b))))
+    → IfOk r (λ k. Makes m old new k (λ row state. (meaning (context m row state) (binary a two.Equal b)).at w s))
+equal_at m a b w s old new r some = IfOk-weaker r (λ k. Makes m old new k (λ row state. own (compared (primary_meaning (context m row state) a) (primary_meaning (context m row state) b))))
+    (λ k. Makes m old new k (λ row state. (meaning (context m row state) (binary a two.Equal b)).at w s))
+    (λ k. made_as m old new k (λ row state. own (compared (primary_meaning (context m row state) a) (primary_meaning (context m row state) b))) (λ row state. (meaning (context m row state) (binary a two.Equal b)).at w s)
     (λ row state f g. test_same _ w s some))
 
-pub not_made : {E : Type 0} (m : Module) (a : Operand) (w v : ℕ) (s t : Bool) (old mid new : List Node) (i : ℕ) (r : Result ℕ E) → 1 ≤ w → v ≡ (operand_meaning (bare m) a).width
-    → t ≡ (operand_meaning (bare m) a).signed → Makes m old mid i (λ row state. (operand_meaning (context m row state) a).at v t)
-    → IfOk r (λ k. k ≡ length mid) → OnOk r (new ≡ mid ++ n.Not i ∷ []) → IfOk r (λ k. Makes m old new k (λ row state. (meaning (context m row state) (negated a)).at w s))
-not_made m a w v s t old mid new i r some wide sign x e z =
-    added_ok m old mid new (n.Not i) (λ row state. (meaning (context m row state) (negated a)).at w s) r x.grown e z x.here
+pub not_at : {E : Type 0} (m : Module) (a : Primary) (w : ℕ) (s : Bool) (old new : List Node) (r : Result ℕ E) → 1 ≤ w
+    → IfOk r (λ k. Makes m old new k (λ row state. own (logically_negated (primary_meaning (context m row state) a))))
+    → IfOk r (λ k. Makes m old new k (λ row state. (meaning (context m row state) (unary one.LogicNot a)).at w s))
+not_at m a w s old new r some = IfOk-weaker r (λ k. Makes m old new k (λ row state. own (logically_negated (primary_meaning (context m row state) a))))
+    (λ k. Makes m old new k (λ row state. (meaning (context m row state) (unary one.LogicNot a)).at w s))
+    (λ k. made_as m old new k (λ row state. own (logically_negated (primary_meaning (context m row state) a))) (λ row state. (meaning (context m row state) (unary one.LogicNot a)).at w s)
+    (λ row state f g. test_same _ w s some))
+
+-- an operand at its own width and sign
+pub not_made : {E : Type 0} (m : Module) (a : Primary) (v : ℕ) (t : Bool) (old mid new : List Node) (i : ℕ) (r : Result ℕ E) → v ≡ (primary_meaning (bare m) a).width
+    → t ≡ (primary_meaning (bare m) a).signed → Makes m old mid i (λ row state. (primary_meaning (context m row state) a).at v t)
+    → IfOk r (λ k. k ≡ length mid) → OnOk r (new ≡ mid ++ n.Not i ∷ []) → IfOk r (λ k. Makes m old new k (λ row state. own (logically_negated (primary_meaning (context m row state) a))))
+not_made m a v t old mid new i r wide sign x e z =
+    added_ok m old mid new (n.Not i) (λ row state. own (logically_negated (primary_meaning (context m row state) a))) r x.grown e z x.here
     (λ row state f g.
-    let own_width : v ≡ (operand_meaning (context m row state) a).width = wide ∙ sym (operand_width_same (context m row state) (bare m) a refl) in
-    let own_sign : t ≡ (operand_meaning (context m row state) a).signed = sign ∙ sym (operand_sign_same (context m row state) (bare m) a) in
-    ap (λ (k : ℕ). bit (k == 0)) (x.is row state f g ∙ ap (λ (k : ℕ). (operand_meaning (context m row state) a).at k t) own_width
-    ∙ ap (λ (q : Bool). (operand_meaning (context m row state) a).at (operand_meaning (context m row state) a).width q) own_sign)
-    ∙ sym (test_at (own (operand_meaning (context m row state) a) == 0) w s some))
+    let own_width : v ≡ (primary_meaning (context m row state) a).width = wide ∙ sym (primary_width_same (context m row state) (bare m) a refl) in
+    let own_sign : t ≡ (primary_meaning (context m row state) a).signed = sign ∙ sym (primary_sign_same (context m row state) (bare m) a) in
+    ap (λ (k : ℕ). bit (k == 0)) (x.is row state f g ∙ ap (λ (k : ℕ). (primary_meaning (context m row state) a).at k t) own_width
+    ∙ ap (λ (q : Bool). (primary_meaning (context m row state) a).at (primary_meaning (context m row state) a).width q) own_sign)
+    ∙ sym (test_at (own (primary_meaning (context m row state) a) == 0) 1 false (omega arith)))
 
 -- an expression at its own width and sign
 pub condition_made : {E : Type 0} (m : Module) (e : Expr) (w : ℕ) (s : Bool) (old new : List Node) (r : Result ℕ E) → w ≡ (meaning (bare m) e).width → s ≡ (meaning (bare m) e).signed

@@ -8,9 +8,13 @@ use Rattle.bit_ops.specs.Operators.{residue, integer, bit}
 use Rattle.flat_ir.specs.declared.design.Node.{Node}
 use Rattle.flat_ir.specs.FlatRun.{NodeFits, value, values_from}
 use Rattle.flat_ir.specs.Names.{Fit}
-use Rattle.vl_tree.specs.Tree.{Module, Operand, name, number, Expr, plain, sum, equal, negated}
+use Rattle.vl_tree.specs.declared.expr.Unary.{Unary}
+use Rattle.vl_tree.specs.declared.expr.Unary.TheVariants as one
+use Rattle.vl_tree.specs.declared.expr.Binary.{Binary}
+use Rattle.vl_tree.specs.declared.expr.Binary.TheVariants as two
+use Rattle.vl_tree.specs.Tree.{Module, Primary, name, number, Expr, primary, unary, binary}
 use Rattle.vl_meaning.specs.Objects.{data_inputs, registers, width_of}
-use Rattle.vl_meaning.specs.Expression.{Context, operand_meaning, meaning, of_number, test}
+use Rattle.vl_meaning.specs.Expression.{Context, Meaning, primary_meaning, unary_meaning, binary_meaning, meaning, of_number, test}
 use Rattle.vl_meaning.specs.StandsFor.{input_widths, register_widths}
 use Rattle.vl_proc.specs.Lowers.{node_value, Grown, Makes}
 
@@ -108,15 +112,15 @@ residue_below : (w : ℕ) (z : ℤ) → residue w z < 2 ^ w
 residue_below w (pos n) = mod-lt n (pow_pos w)
 residue_below w (negsuc n) = omega (arith, pow_pos w)
 
-pub operand_below : (c : Context) (a : Operand) (w : ℕ) (s : Bool) → (operand_meaning c a).at w s < 2 ^ w
-operand_below c (name x) w s = mod-lt _ (pow_pos w)
-operand_below c (number l) w s = residue_below w (integer (l.signed && s) l.width l.value)
+pub primary_below : (c : Context) (a : Primary) (w : ℕ) (s : Bool) → (primary_meaning c a).at w s < 2 ^ w
+primary_below c (name x) w s = mod-lt _ (pow_pos w)
+primary_below c (number l) w s = residue_below w (integer (l.signed && s) l.width l.value)
 
 pub meaning_below : (c : Context) (e : Expr) (w : ℕ) (s : Bool) → (meaning c e).at w s < 2 ^ w
-meaning_below c (plain a) w s = operand_below c a w s
-meaning_below c (sum a b) w s = mod-lt _ (pow_pos w)
-meaning_below c (equal a b) w s = mod-lt _ (pow_pos w)
-meaning_below c (negated a) w s = mod-lt _ (pow_pos w)
+meaning_below c (primary a) w s = primary_below c a w s
+meaning_below c (unary one.LogicNot a) w s = mod-lt _ (pow_pos w)
+meaning_below c (binary a two.Add b) w s = mod-lt _ (pow_pos w)
+meaning_below c (binary a two.Equal b) w s = mod-lt _ (pow_pos w)
 
 -- a number of fewer bits is kept at a larger width
 pub kept : (v w n : ℕ) → v ≤ w → n < 2 ^ v → n % 2 ^ w ≡ n
@@ -132,22 +136,35 @@ test_at b w s l = kept 1 w (bit b) l (bit_below b)
 
 -- ---- widths and signs don't depend on values
 
-pub operand_width_same : (c d : Context) (a : Operand) → c.ports ≡ d.ports → (operand_meaning c a).width ≡ (operand_meaning d a).width
-operand_width_same c d (name x) e = ap (λ ps. (of_number (width_of ps x) false 0).width) e
-operand_width_same c d (number l) e = refl
+pub primary_width_same : (c d : Context) (a : Primary) → c.ports ≡ d.ports → (primary_meaning c a).width ≡ (primary_meaning d a).width
+primary_width_same c d (name x) e = ap (λ ps. (of_number (width_of ps x) false 0).width) e
+primary_width_same c d (number l) e = refl
+
+unary_width_same : (op : Unary) (x y : Meaning) → x.width ≡ y.width → (unary_meaning op x).width ≡ (unary_meaning op y).width
+unary_width_same one.LogicNot x y e = refl
+
+binary_width_same : (op : Binary) (x y u v : Meaning) → x.width ≡ u.width → y.width ≡ v.width → (binary_meaning op x y).width ≡ (binary_meaning op u v).width
+binary_width_same two.Add x y u v e f = cc
+binary_width_same two.Equal x y u v e f = refl
 
 pub width_same : (c d : Context) (e : Expr) → c.ports ≡ d.ports → (meaning c e).width ≡ (meaning d e).width
-width_same c d (plain a) e = operand_width_same c d a e
-width_same c d (sum a b) e = let x = operand_width_same c d a e in let y = operand_width_same c d b e in cc
-width_same c d (equal a b) e = refl
-width_same c d (negated a) e = refl
+width_same c d (primary a) e = primary_width_same c d a e
+width_same c d (unary op a) e = unary_width_same op (primary_meaning c a) (primary_meaning d a) (primary_width_same c d a e)
+width_same c d (binary a op b) e =
+    binary_width_same op (primary_meaning c a) (primary_meaning c b) (primary_meaning d a) (primary_meaning d b) (primary_width_same c d a e) (primary_width_same c d b e)
 
-pub operand_sign_same : (c d : Context) (a : Operand) → (operand_meaning c a).signed ≡ (operand_meaning d a).signed
-operand_sign_same c d (name x) = refl
-operand_sign_same c d (number l) = refl
+pub primary_sign_same : (c d : Context) (a : Primary) → (primary_meaning c a).signed ≡ (primary_meaning d a).signed
+primary_sign_same c d (name x) = refl
+primary_sign_same c d (number l) = refl
+
+unary_sign_same : (op : Unary) (x y : Meaning) → x.signed ≡ y.signed → (unary_meaning op x).signed ≡ (unary_meaning op y).signed
+unary_sign_same one.LogicNot x y e = refl
+
+binary_sign_same : (op : Binary) (x y u v : Meaning) → x.signed ≡ u.signed → y.signed ≡ v.signed → (binary_meaning op x y).signed ≡ (binary_meaning op u v).signed
+binary_sign_same two.Add x y u v e f = cc
+binary_sign_same two.Equal x y u v e f = refl
 
 pub sign_same : (c d : Context) (e : Expr) → (meaning c e).signed ≡ (meaning d e).signed
-sign_same c d (plain a) = operand_sign_same c d a
-sign_same c d (sum a b) = let x = operand_sign_same c d a in let y = operand_sign_same c d b in cc
-sign_same c d (equal a b) = refl
-sign_same c d (negated a) = refl
+sign_same c d (primary a) = primary_sign_same c d a
+sign_same c d (unary op a) = unary_sign_same op (primary_meaning c a) (primary_meaning d a) (primary_sign_same c d a)
+sign_same c d (binary a op b) = binary_sign_same op (primary_meaning c a) (primary_meaning c b) (primary_meaning d a) (primary_meaning d b) (primary_sign_same c d a) (primary_sign_same c d b)

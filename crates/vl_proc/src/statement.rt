@@ -16,7 +16,8 @@ use dt_core::fault::NoMemory;
 use dt_core::text::Text;
 use flat_ir::design::{Deed, Node, Role};
 use std::alloc::Global;
-use vl_tree::tree::{Branch, Expr, Stmt};
+use vl_tree::expr::Expr;
+use vl_tree::tree::{Branch, Stmt};
 
 /// Adds the actions of statements, in order.
 #[cycle(statement)]

@@ -12,8 +12,9 @@ use dt_core::text::Text;
 use sqlite_items::Items;
 use std::alloc::Global;
 use std::test::Fail;
+use vl_tree::expr::{Binary, Expr, Primary};
 use vl_tree::token::Literal;
-use vl_tree::tree::{Branch, Expr, Module, Operand, Port, Stmt};
+use vl_tree::tree::{Branch, Module, Port, Stmt};
 
 fn four_bits(value: u128) -> Literal
     requires { value < 16 }
@@ -32,8 +33,8 @@ fn four_bits(value: u128) -> Literal
 fn counting(alloc: Global) -> Result<Stmt, NoMemory>
     ensures { IfOk result (λ s. stmt s ≡ counts) }
 {
-    let r = Operand::Name(Text::copied(alloc, b"r")?);
-    let next = Expr::Sum(r, Operand::Number(four_bits(1)));
+    let r = Primary::Name(Text::copied(alloc, b"r")?);
+    let next = Expr::Binary(r, Binary::Add, Primary::Number(four_bits(1)));
     Ok(Stmt::Assign(Text::copied(alloc, b"r")?, next))
 }
 
@@ -41,8 +42,8 @@ fn counting(alloc: Global) -> Result<Stmt, NoMemory>
 fn stopping(alloc: Global) -> Result<Stmt, NoMemory>
     ensures { IfOk result (λ s. stmt s ≡ stops) }
 {
-    let r = Operand::Name(Text::copied(alloc, b"r")?);
-    let condition = Expr::Equal(r, Operand::Number(four_bits(9)));
+    let r = Primary::Name(Text::copied(alloc, b"r")?);
+    let condition = Expr::Binary(r, Binary::Equal, Primary::Number(four_bits(9)));
     let mut all = Items::new(alloc);
     match all.push(Branch {
         condition,

@@ -2,7 +2,7 @@ use Rattle.vl_tree.specs.View.{module_of}
 use Rattle.vl_tree.specs.Tree.{Module}
 use Rattle.vl_proc.proofs.Ports.{found_width}
 use Rattle.vl_proc.proofs.Sees.{found_range, narrow_of}
-use Rattle.vl_proc.proofs.expression.operand_width.Goals as goal
+use Rattle.vl_proc.proofs.expression.primary_width.Goals as goal
 
 pub returns-in-Name-clause-value : goal.returns-in-Name-clause-value
 returns-in-Name-clause-value c =

@@ -1,0 +1,10 @@
+use Rattle.vl_tree.specs.View.{module_of, primary}
+use Rattle.vl_tree.specs.Tree.{Module}
+use Rattle.vl_proc.proofs.Made.{sum_made}
+use Rattle.vl_proc.proofs.expression.sum.Goals as goal
+
+pub returns : goal.returns
+returns c =
+    let m : Module = module_of c.args.scope.now.module.now in
+    sum_made m (primary c.args.a.now) (primary c.args.b.now) c.args.width c.args.signed c.args.nodes.now c.primary.new.nodes c.primary-2.new.nodes c.add.new.self c.in_ok-left.left c.in_ok-right.right c.add.result
+    c.requires.range.0 c.requires.range.1 c.in_ok-left.ensures c.in_ok-right.ensures c.add.ensures.number c.add.ensures.added
