@@ -9,9 +9,9 @@ use Rattle.vl_tree.specs.Token.{Kind, Token, Tokens, Literal, token, kind_of}
 use Rattle.vl_tree.specs.Token as k
 use Rattle.vl_tree.specs.Tree.{Text, Primary, name, number, Expr, primary, unary, binary}
 use Rattle.vl_tree.specs.Grammar.{mark, unary_mark, binary_mark, primary_at, expr_at}
-use Rattle.vl_module.specs.Reading.{Any, Took, NoTree, one}
+use Rattle.vl_module.specs.Reading.{Any, Took, NoTree}
 use Rattle.vl_module.specs.Rules.{operator_at, Ends}
-use Rattle.vl_module.proofs.Pieces.{lead, trail, pair, took_less, no_less, took_pair, no_pair_2, took_as, no_as}
+use Rattle.vl_module.proofs.Pieces.{trail, pair, took_less, no_less, took_pair, no_pair_2, took_as, no_as}
 use Rattle.vl_module.proofs.OneToken.{took_name, took_number}
 
 -- ---- operators

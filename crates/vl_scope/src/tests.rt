@@ -129,11 +129,19 @@ fn chain(alloc: Global, case: &Case) -> Result<Stmt, Fail> {
     let one = Expr::Binary(name(alloc, b"r")?, Binary::Add, Primary::Number(plain(1)));
     let mut branches = Items::new(alloc);
     branches.push(Branch {
-        condition: Expr::Binary(name(alloc, case.input)?, Binary::Equal, Primary::Number(plain(1))),
+        condition: Expr::Binary(
+            name(alloc, case.input)?,
+            Binary::Equal,
+            Primary::Number(plain(1)),
+        ),
         body: assign(alloc, b"r", one)?,
     })?;
     branches.push(Branch {
-        condition: Expr::Binary(name(alloc, case.read)?, Binary::Equal, Primary::Number(plain(9))),
+        condition: Expr::Binary(
+            name(alloc, case.read)?,
+            Binary::Equal,
+            Primary::Number(plain(9)),
+        ),
         body: failure(alloc, case)?,
     })?;
     let zero = Expr::Primary(Primary::Number(plain(0)));
