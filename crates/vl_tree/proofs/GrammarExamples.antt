@@ -50,7 +50,7 @@ outer_is_refused (m1, (_, (_, e1)), (m2, (m3, (_, (_, e2)), (m4, (_, (_, e3)), (
 if_behind_else_is_refused : (ts rest : Tokens) → stmt_at 2 (conditional (more_branch (primary (name (codes "a"))) (write 1) no_branch) (else_stmt inner_else)) ts rest → ⊥
 if_behind_else_is_refused ts rest (_, _, (_, _, (_, _, (_, _, (_, _, (is_no_if, _)))))) = absurd cc
 
--- ---- depths
+-- ---- operators before their operands
 
 -- ! a
 abbrev not_a : Tokens
@@ -86,7 +86,7 @@ equality_derives = (_, (_, (omega arith, refl)), (_, (_, (omega arith, refl)), (
 sum_is_no_equality : (rest : Tokens) → expr_at 2 (binary (name (codes "a")) two.Equal (name (codes "b"))) a_plus_b rest → ⊥
 sum_is_no_equality rest (_, (_, (_, e)), (_, (_, (_, f)), _)) = absurd cc
 
--- ---- statements and depths
+-- ---- blocks
 
 -- begin end
 abbrev empty_block : Tokens
