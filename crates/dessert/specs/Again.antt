@@ -38,7 +38,8 @@ Waves old new before now text (Err fault.Write) = Rose before now × AppendsPart
 Waves old new before now text (Err fault.Memory) = AppendsPart old new text
 
 -- the design stands in the cycle `end`, with all before it written; or a front of the waveform was written, for this cause
-abbrev pub Goes : Flat → List (List ℕ) → ℕ → ℕ → Option (List ℕ) → Option (List ℕ) → ℕ → ℕ → Moment → Writer → Result (Unit {0}) VcdFault → Type 0
+abbrev pub Goes : Flat → List (List ℕ) → ℕ → ℕ → Option (List ℕ) → Option (List ℕ) → ℕ → ℕ → Moment → Writer
+    → Result (Unit {0}) VcdFault → Type 0
 Goes f rows first end held out before now sim w (Ok u) = Stands f rows first end held out sim w
 Goes f rows first end held out before now sim w (Err e) = Waves held out before now (wave_until f rows first end) (Err e)
 

@@ -78,7 +78,8 @@ moment l r o w h p n = record { left = l; reads = r; out = o; writes = w; report
 -- the files of these names hold these contents, where that is told, and each is within the limit
 abbrev pub Loaded : (List ℕ → Option (List ℕ)) → Bool → List (List ℕ) → List (List ℕ) → Type 0
 Loaded content told [] [] = Unit {0}
-Loaded content told (name ∷ names) (bytes ∷ files) = (IsTrue told → content name ≡ Some bytes) × (length bytes ≤ most_file) × Loaded content told names files
+Loaded content told (name ∷ names) (bytes ∷ files) = (IsTrue told → content name ≡ Some bytes) × (length bytes ≤ most_file)
+    × Loaded content told names files
 Loaded content told _ _ = ⊥
 
 -- ---- the answer
@@ -193,5 +194,7 @@ module _ (L : Layers) (content : List ℕ → Option (List ℕ)) (told : Bool) (
       × Appends old.out new.out out × AppendsPart old.report new.report report
   Answers memory =
       IsAllowed × ((Keeps old.out new.out × Keeps old.report new.report)
-      ⊎ ((was : Status) × (out : List ℕ) × (report : List ℕ) × Due was out report × AppendsPart old.out new.out out × AppendsPart old.report new.report report))
-  Answers status = (out : List ℕ) × (report : List ℕ) × Due status out report × Appends old.out new.out out × Appends old.report new.report report
+      ⊎ ((was : Status) × (out : List ℕ) × (report : List ℕ) × Due was out report × AppendsPart old.out new.out out
+          × AppendsPart old.report new.report report))
+  Answers status = (out : List ℕ) × (report : List ℕ) × Due status out report × Appends old.out new.out out
+      × Appends old.report new.report report

@@ -17,5 +17,6 @@ RanAll flat names old new before now p (Ok u) =
 RanAll flat names old new before now p (Err (f.Stimulus s.NotBuilt)) = (bytes : List ℕ) × Consumes old new bytes × (Begins names bytes → ⊥)
 RanAll flat names old new before now p (Err (f.Stimulus s.Truncated)) =
     (bytes : List ℕ) × Consumes old new bytes × IsAtEnd new × Begins names bytes × (IsWhole names bytes → ⊥)
-RanAll flat names old new before now p (Err (f.Stimulus s.Read)) = (bytes : List ℕ) × Consumes old new bytes × Rose before now × Begins names bytes
+RanAll flat names old new before now p (Err (f.Stimulus s.Read)) = (bytes : List ℕ) × Consumes old new bytes × Rose before now
+    × Begins names bytes
 RanAll flat names old new before now p (Err f.Memory) = Unit {0}

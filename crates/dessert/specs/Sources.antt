@@ -76,5 +76,6 @@ pub record IsSpot (names files : List (List ℕ)) (line k : ℕ) (s : Spot) : Ty
 
 -- each line of the text stands where its spot says
 abbrev pub SpotsAreRight : Type 0
-SpotsAreRight = (names files : List (List ℕ)) (line : ℕ) → length names ≡ length files → 1 ≤ line → line ≤ count_by (λ b. b == 10) (design_text files)
+SpotsAreRight = (names files : List (List ℕ)) (line : ℕ) → length names ≡ length files → 1 ≤ line
+    → line ≤ count_by (λ b. b == 10) (design_text files)
     → (k : ℕ) × IsSpot names files line k (spot_in (origins_of names files) line)

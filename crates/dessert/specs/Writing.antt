@@ -38,5 +38,6 @@ Reported text status result held0 held1 faults0 faults1 =
 abbrev pub Delivered : List ℕ → List ℕ → Status → Status → Sinks → Sinks → Type 0
 Delivered out report status result old new =
     (Appends old.out new.out out × Reported report status result old.report new.report old.reports new.reports)
-    ⊎ ((Rose old.writes new.writes × AppendsPart old.out new.out out × Wrote write_failed_text writing result old.report new.report old.reports new.reports)
+    ⊎ ((Rose old.writes new.writes × AppendsPart old.out new.out out
+        × Wrote write_failed_text writing result old.report new.report old.reports new.reports)
     ⊎ ((result ≡ memory) × AppendsPart old.out new.out out × Keeps old.report new.report))

@@ -3,7 +3,7 @@ use Rattle.std.proofs.Common.{◌≡◌, ℕ, Bool, true, false, not, ◌&&◌, 
 use Rattle.std.specs.Prelude.{◌⊎◌, Some, is_some, bytes_eq, replicate}
 use Rattle.std.proofs.lemmas.Slice.Eq.{bytes_eq-Decides}
 use Rattle.vl_tree.specs.Tree.{Text, Port, input, output, Module}
-use Rattle.vl_meaning.specs.Objects.{port_name, port_named, width_or_none, width_of, data_inputs_of, data_inputs}
+use Rattle.vl_meaning.specs.Objects.{port_name, port_named, width_or_zero, width_of, data_inputs_of, data_inputs}
 use Rattle.vl_meaning.specs.Faults.{are_distinct, are_declared, is_sound}
 use Rattle.vl_meaning.specs.StandsFor.{input_widths}
 
@@ -28,7 +28,7 @@ skip_by : (p : Port) (ps : List Port) (x : Text) (b : Bool) → bytes_eq (port_n
 skip_by p ps x true e n h =
     let s : port_name p ≡ x = (bytes_eq-Decides (port_name p) x).0 e in
     let t : true ≡ false = sym (in_named ps x h) ∙ ap (λ (y : Text). is_some (port_named ps y)) (sym s) ∙ n in absurd cc
-skip_by p ps x false e n h = ap (λ (b : Bool). width_or_none (if b then Some p else port_named ps x)) e
+skip_by p ps x false e n h = ap (λ (b : Bool). width_or_zero (if b then Some p else port_named ps x)) e
 
 both : (a b : Bool) → (not a && b) ≡ true → (a ≡ false) × (b ≡ true)
 both true b e = absurd cc
@@ -45,7 +45,7 @@ one_bit_from q clock (input x ∷ ps) is d =
     let h = both (is_some (port_named ps x)) (are_distinct ps) d in
     let rest = one_bit_from q clock ps (λ y i. is y (inr i) ∙ skip_by (input x) ps y (bytes_eq x y) refl h.0 i) h.1 in
     let t : bytes_eq x x ≡ true = (bytes_eq-Decides x x).1 refl in
-    let one : q x ≡ 1 = is x (inl refl) ∙ ap (λ (b : Bool). width_or_none (if b then Some (input x) else port_named ps x)) t in
+    let one : q x ≡ 1 = is x (inl refl) ∙ ap (λ (b : Bool). width_or_zero (if b then Some (input x) else port_named ps x)) t in
     let D : List Text = data_inputs_of clock ps in
     let F : Bool → Type 0 = λ b. map q ((if b then [] else x ∷ []) ++ D) ≡ replicate (length ((if b then [] else x ∷ []) ++ D)) 1 in
     elim (bytes_eq x clock) as F [ true ↦ rest | false ↦ (λ i. one i ∷ rest i) ]

@@ -1,6 +1,7 @@
 -- The value of an expression (IEEE 1364-2005, clauses 5.1, 5.4 and 5.5).
 -- An expression means three things: a width and a sign of its own (5.4.1, table 5-22; 5.5.1), and a value at the width and the sign of
--- the context in which it stands (5.5.2). Operands that the standard calls context-determined are evaluated at the context's width and sign.
+-- the context in which it stands (5.5.2). Operands that the standard calls context-determined are evaluated at the context's width and
+-- sign.
 use Rattle.std.specs.Prelude.{ℕ, ◌==◌, Bool, false, ◌&&◌, max, if◌then◌else◌, List, [], ◌∷◌, bytes_eq}
 use Rattle.bit_ops.specs.Operators as ops
 use Rattle.vl_tree.specs.declared.expr.Unary.{Unary}

@@ -1,5 +1,5 @@
--- The static faults that a module with one clocked block can have; a module is sound where it has none. This project's own limits
--- and kinds; the rules are those of IEEE 1364-2005, clauses 4, 9.2 and 12.3, for one clock.
+-- The static faults that a module with one clocked block can have, and which modules are sound. Limits and kinds are this project's
+-- own; the rules are those of IEEE 1364-2005, clauses 4, 9.2 and 12.3, for one clock.
 use Rattle.std.specs.Prelude.{ℕ, ◌+◌, ◌==◌, nat_le, Bool, true, false, not, ◌&&◌, List, [], ◌∷◌, length, Option, Some, None, is_some, bytes_eq, pos, int_le}
 use Rattle.std.specs.List.{list_all}
 use Rattle.flat_ir.specs.Format.{items}
@@ -149,6 +149,10 @@ is_short m = nat_le (1 + stmts_count m.body) 65536
 abbrev pub are_declared : Module → Bool
 are_declared m = are_few m && list_all has_range m.ports && list_all is_narrow m.ports && are_distinct m.ports && is_clock m
 
--- no static fault; and one `$stop` at most, which is a bound of this form of text
+-- the module has no static fault
+abbrev pub has_no_fault : Module → Bool
+has_no_fault m = are_declared m && are_stmts m m.body && is_short m
+
+-- a sound module has no static fault, and one `$stop` at most, which is a bound of this form of text
 abbrev pub is_sound : Module → Bool
-is_sound m = are_declared m && are_stmts m m.body && is_short m && nat_le (stmts_stops m.body) 1
+is_sound m = has_no_fault m && nat_le (stmts_stops m.body) 1

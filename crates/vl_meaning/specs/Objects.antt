@@ -1,4 +1,5 @@
--- What the names of a module stand for (IEEE 1364-2005, clauses 4.2, 4.3 and 12.3).
+-- What the names of a module stand for (IEEE 1364-2005, clauses 4.2, 4.3 and 12.3). That a clock is no data input, and the order of
+-- inputs and registers, are this project's own.
 use Rattle.std.specs.Prelude.{ℕ, ◌+◌, ◌-◌, if◌then◌else◌, List, [], ◌∷◌, ◌++◌, Option, Some, None, bytes_eq, ℤ}
 use Rattle.bit_ops.specs.Operators.{integer}
 use Rattle.vl_tree.specs.Token.{Literal}
@@ -35,13 +36,13 @@ abbrev pub port_width : Port → ℕ
 port_width (input x) = 1
 port_width (output x l r) = distance l.value r.value + 1
 
-abbrev pub width_or_none : Option Port → ℕ
-width_or_none None = 0
-width_or_none (Some p) = port_width p
+abbrev pub width_or_zero : Option Port → ℕ
+width_or_zero None = 0
+width_or_zero (Some p) = port_width p
 
 -- the width of what a name stands for
 abbrev pub width_of : List Port → Text → ℕ
-width_of ps x = width_or_none (port_named ps x)
+width_of ps x = width_or_zero (port_named ps x)
 
 -- ---- inputs and registers
 

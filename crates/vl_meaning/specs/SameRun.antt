@@ -13,7 +13,7 @@ use Rattle.vl_meaning.specs.StandsFor.{StandsFor, by_names, input_widths, regist
 abbrev pub AllFit : Module → List (List ℕ) → Type 0
 AllFit m rows = (t : ℕ) → t < length rows → Fit (input_widths m) (slice_index_or rows t [])
 
--- in the cycle t of the rows: the state is the module's, it fits the registers
+-- in the cycle t of the rows: the state is the module's, and it fits the registers
 pub record SameAt (f : Flat) (m : Module) (rows : List (List ℕ)) (t : ℕ) : Type 0 where
   pub state : by_names m (flat_state f rows t) ≡ state m rows t
   pub fits : Fit (register_widths m) (flat_state f rows t)

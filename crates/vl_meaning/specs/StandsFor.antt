@@ -32,5 +32,7 @@ pub record StandsFor (f : Flat) (m : Module) : Type 0 where
   pub start : by_names m (flat_start f) ≡ initial m
   pub next : (row state : List ℕ) → Fit (input_widths m) row → Fit (register_widths m) state
       → (by_names m (flat_next f row state) ≡ next m row (by_names m state)) × Fit (register_widths m) (flat_next f row state)
-  pub fired : (row state : List ℕ) → Fit (input_widths m) row → Fit (register_widths m) state → flat_fired f row state ≡ fired m row (by_names m state)
-  pub shown : (row state : List ℕ) → Fit (input_widths m) row → Fit (register_widths m) state → flat_shown f row state ≡ shown m row (by_names m state)
+  pub fired : (row state : List ℕ) → Fit (input_widths m) row → Fit (register_widths m) state
+      → flat_fired f row state ≡ fired m row (by_names m state)
+  pub shown : (row state : List ℕ) → Fit (input_widths m) row → Fit (register_widths m) state
+      → flat_shown f row state ≡ shown m row (by_names m state)

@@ -1,5 +1,6 @@
 -- The grammar of a module with one clocked block (IEEE 1364-2005, annex A, cut down): which tokens stand for a tree, from where they
--- begin to what is left behind them. Each token stands at a depth, the number of constructs that enclose it, of 200 at most.
+-- begin to what is left behind them. Each token stands at a depth, the number of constructs that enclose it, of 200 at most: this
+-- project's own. The nearest `if` is 9.4.
 use Rattle.std.specs.Prelude.{ℕ, ◌+◌, ◌≡◌, ◌≤◌, Bool, true, false, List, [], ◌∷◌, Option, Some, None}
 use Rattle.vl_tree.specs.declared.token.Key.{Key}
 use Rattle.vl_tree.specs.declared.token.Key.TheVariants as w
@@ -109,9 +110,11 @@ abbrev mutual
   pub stmt_at : ℕ → Stmt → Piece
   stmt_at d (block ss) = word d w.Begin then stmts_at (d + 1) ss then word d w.End
   stmt_at d (conditional no_branch o) = nowhere
-  stmt_at d (conditional (more_branch c b bs) o) = word d w.If then condition_at d c then stmt_at (d + 1) b then branches_at d bs then otherwise_at d o
+  stmt_at d (conditional (more_branch c b bs) o) = word d w.If then condition_at d c then stmt_at (d + 1) b
+      then branches_at d bs then otherwise_at d o
   stmt_at d (assign n e) = name_at d n then mark d m.LessEqual then expr_at d e then mark d m.Semicolon
-  stmt_at d (display f n) = kind d (k.system s.Display) then mark d m.OpenParen then kind (d + 1) (k.str f) then shown_at (d + 1) n then mark d m.CloseParen then mark d m.Semicolon
+  stmt_at d (display f n) = kind d (k.system s.Display) then mark d m.OpenParen then kind (d + 1) (k.str f)
+      then shown_at (d + 1) n then mark d m.CloseParen then mark d m.Semicolon
   stmt_at d (stop line) = kind_on d line (k.system s.Stop) then mark d m.Semicolon
 
   pub stmts_at : ℕ → Stmts → Piece
@@ -134,7 +137,8 @@ abbrev mutual
 -- port = "input" ID | "output" "reg" "[" NUM ":" NUM "]" ID
 abbrev pub port_at : ℕ → Port → Piece
 port_at d (input n) = word d w.Input then name_at d n
-port_at d (output n l r) = word d w.Output then word d w.Reg then mark d m.OpenBracket then kind (d + 1) (k.number l) then mark (d + 1) m.Colon then kind (d + 1) (k.number r)
+port_at d (output n l r) = word d w.Output then word d w.Reg then mark d m.OpenBracket then kind (d + 1) (k.number l)
+    then mark (d + 1) m.Colon then kind (d + 1) (k.number r)
     then mark d m.CloseBracket then name_at d n
 
 -- ports with a comma before each
@@ -149,12 +153,14 @@ ports_at d (p ∷ ps) = port_at d p then more_ports_at d ps
 
 -- always = "always" "@" "(" "posedge" ID ")" "begin" { stmt } "end"
 abbrev pub always_at : ℕ → Text → Stmts → Piece
-always_at d clock body = word d w.Always then mark d m.At then mark d m.OpenParen then word (d + 1) w.Posedge then name_at (d + 1) clock then mark d m.CloseParen
+always_at d clock body = word d w.Always then mark d m.At then mark d m.OpenParen then word (d + 1) w.Posedge
+    then name_at (d + 1) clock then mark d m.CloseParen
     then word d w.Begin then stmts_at (d + 1) body then word d w.End
 
 -- source = "module" ID "(" port { "," port } ")" ";" always "endmodule"
 abbrev pub module_at : Module → Piece
-module_at x = word 0 w.Module then name_at 0 x.name then mark 0 m.OpenParen then ports_at 1 x.ports then mark 0 m.CloseParen then mark 0 m.Semicolon
+module_at x = word 0 w.Module then name_at 0 x.name then mark 0 m.OpenParen then ports_at 1 x.ports then mark 0 m.CloseParen
+    then mark 0 m.Semicolon
     then always_at 1 x.clock x.body then word 0 w.Endmodule
 
 -- the tokens are the module's, all of them

@@ -1,4 +1,5 @@
--- Tokens as plain data (IEEE 1364-2005, 3.1). Keywords, marks and system names are those of the code.
+-- Tokens as plain data (IEEE 1364-2005, 3.1). Keywords, marks and system names are those of the program; that a literal tells the
+-- bits that it leaves open is this project's own.
 use Rattle.std.specs.Prelude.{ℕ, Bool, List, map}
 use Rattle.vl_tree.specs.declared.token.Key.{Key}
 use Rattle.vl_tree.specs.declared.token.Mark.{Mark}
@@ -35,7 +36,7 @@ kind_of (token line a) = a
 abbrev pub Tokens : Type 0
 Tokens = List Token
 
--- ---- the tokens of the code
+-- ---- the tokens of the program
 
 abbrev pub literal_of : declared_literal.Literal → Literal
 literal_of l = record { width = l.width; sized = l.sized; signed = l.signed; value = l.value; wild = l.wild }

@@ -1,4 +1,4 @@
--- The plain tree of each tree of the code.
+-- The plain tree of each tree of the program. This project's own.
 use Rattle.std.specs.Prelude.{List, [], ◌∷◌, Option, Some, None, map}
 use Rattle.vl_tree.specs.declared.expr.Primary as primary_code
 use Rattle.vl_tree.specs.declared.expr.Primary.TheVariants as a
