@@ -11,7 +11,6 @@ use Rattle.vl_lex.specs.Digits.{value_of}
 use Rattle.vl_lex.specs.Numbers.{Counted, Format, is_in_decimal, format_at, counted, digits_length, goes_on, literal_of_size, number_by, number_at, plain_literal}
 use Rattle.vl_lex.specs.Strings.{string_at}
 use Rattle.vl_lex.specs.Attributes.{close_from}
-use Rattle.vl_lex.specs.declared.attributes.Within.TheVariants as within
 use Rattle.vl_lex.specs.Tokens.{Spelled, or_other, is_in_escaped, most_name, short, word_kind, name_token, number_token, string_token, mark_token, Class, of_name, of_number, of_system, of_escaped, of_string, of_mark, class_of, token_of, token_at, Piece, gap, spelt, Lead, white, attribute, spelling, lead_of, attribute_piece, token_piece, piece_by, piece_at}
 use Rattle.vl_lex.specs.Spelled.{size_of}
 
@@ -143,7 +142,7 @@ token_piece_some (Err e) p f h = absurd cc
 
 lead_some : (l : Lead) (bs : List ℕ) (p : Piece) → piece_by l bs ≡ Ok p → 0 < size_of p
 lead_some white bs p h = let e : 1 ≡ size_of p = ap size_of (ok_piece (gap 1) p h) in omega (arith, e)
-lead_some attribute bs p h = attribute_some (close_from within.Outside (drop 2 bs)) p h
+lead_some attribute bs p h = attribute_some (close_from (drop 2 bs)) p h
 lead_some spelling bs p h = token_piece_some (token_at bs) p (token_some bs) h
 
 pub piece_some : (bs : List ℕ) (p : Piece) → piece_at bs ≡ Ok p → 0 < size_of p

@@ -1,8 +1,8 @@
--- Attributes, which are passed over (IEEE 1364-2005, 3.8; that their contents are not looked at is this project's own).
-use Rattle.std.specs.Prelude.{ℕ, ◌+◌, ◌==◌, Bool, false, not, ◌&&◌, ◌||◌, if◌then◌else◌, List, [], ◌∷◌, Option, Some, None}
+-- Attributes, which are passed over (IEEE 1364-2005, 3.8; that their contents are strings and other bytes, and not looked at, is this
+-- project's own).
+use Rattle.std.specs.Prelude.{ℕ, zero, suc, ◌+◌, ◌==◌, Bool, false, not, ◌&&◌, if◌then◌else◌, List, [], ◌∷◌, Option, Some, None}
 use Rattle.vl_pre.specs.Bytes.{is_white}
-use Rattle.vl_lex.specs.declared.attributes.Within.{Within}
-use Rattle.vl_lex.specs.declared.attributes.Within.TheVariants as within
+use Rattle.vl_pre.specs.Pieces.{string_length}
 
 -- this byte comes
 abbrev pub begins_with : ℕ → List ℕ → Bool
@@ -24,26 +24,27 @@ abbrev pub opens_attribute : List ℕ → Bool
 opens_attribute [] = false
 opens_attribute (b ∷ bs) = b == 40 && star_opens bs
 
--- where the next byte of an attribute stands behind this one: outside strings, in a string, or behind a backslash in one; a string ends
--- at the next quote that no backslash escapes, or with its line
-abbrev pub after_byte : Within → ℕ → Within
-after_byte within.Outside b = if b == 34 then within.Quoted else within.Outside
-after_byte within.Quoted b = if b == 34 || b == 10 then within.Outside else if b == 92 then within.Escaping else within.Quoted
-after_byte within.Escaping b = if b == 10 then within.Outside else within.Quoted
+-- `*)` stands here
+abbrev pub closes_attribute : List ℕ → Bool
+closes_attribute [] = false
+closes_attribute (b ∷ bs) = b == 42 && begins_with 41 bs
 
--- `*)` stands here, outside strings
-abbrev pub ends_attribute : Within → List ℕ → Bool
-ends_attribute within.Outside [] = false
-ends_attribute within.Outside (b ∷ bs) = b == 42 && begins_with 41 bs
-ends_attribute within.Quoted bs = false
-ends_attribute within.Escaping bs = false
+-- how many bytes of a string stand behind this byte: where it is a quote, those up to the next quote that no backslash escapes, that one
+-- included, or up to the end of the line or text
+abbrev pub string_behind : ℕ → List ℕ → ℕ
+string_behind b bs = if b == 34 then string_length false false bs else 0
 
 -- one more
 abbrev pub more : Option ℕ → Option ℕ
 more None = None
 more (Some n) = Some (n + 1)
 
--- how many bytes lead to the next `*)` outside strings, and it with them
-abbrev pub close_from : Within → List ℕ → Option ℕ
-close_from at [] = None
-close_from at (b ∷ bs) = if ends_attribute at (b ∷ bs) then Some 2 else more (close_from (after_byte at b) bs)
+-- how many bytes lead to the first `*)` outside strings, and it with them, where the first n bytes are the rest of a string
+abbrev pub close_behind : ℕ → List ℕ → Option ℕ
+close_behind n [] = None
+close_behind zero (b ∷ bs) = if closes_attribute (b ∷ bs) then Some 2 else more (close_behind (string_behind b bs) bs)
+close_behind (suc n) (b ∷ bs) = more (close_behind n bs)
+
+-- how many bytes lead from behind the `(*` of an attribute to the first `*)` outside strings, and it with them
+abbrev pub close_from : List ℕ → Option ℕ
+close_from bs = close_behind 0 bs

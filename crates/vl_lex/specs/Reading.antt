@@ -1,5 +1,5 @@
 -- What the readers answer, beside what the definition says. This project's own.
-use Rattle.std.specs.Prelude.{ℕ, ◌^◌, ◌<◌, ◌≤◌, ◌≡◌, List, [], ◌∷◌, ◌++◌, ◌⊎◌, map, length, Option, Some, None, Result, Ok, Err}
+use Rattle.std.specs.Prelude.{ℕ, ◌^◌, ◌<◌, ◌≤◌, ◌≡◌, ◌==◌, Bool, true, false, ◌||◌, if◌then◌else◌, List, [], ◌∷◌, ◌++◌, ◌⊎◌, map, length, Option, Some, None, Result, Ok, Err}
 use Rattle.vl_tree.specs.declared.token.Mark.{Mark}
 use Rattle.vl_tree.specs.declared.token.Literal as literal
 use Rattle.vl_tree.specs.declared.token.Token as code
@@ -7,8 +7,12 @@ use Rattle.vl_tree.specs.declared.token.TokenKind.{TokenKind}
 use Rattle.vl_tree.specs.Token.{mark, Tokens, Literal, literal_of, coded_kind}
 use Rattle.std.specs.Borrow.{Bor}
 use Rattle.vl_lex.specs.Faults.{FaultKind, bad_token, bad_number, too_wide, open_string, too_many_tokens, Fault}
+use Rattle.vl_pre.specs.Pieces.{string_length}
+use Rattle.vl_lex.specs.Attributes as a
 use Rattle.vl_lex.specs.Numbers as n
 use Rattle.vl_lex.specs.Tokens as t
+use Rattle.vl_lex.specs.declared.attributes.Within.{Within}
+use Rattle.vl_lex.specs.declared.attributes.Within.TheVariants as within
 use Rattle.vl_lex.specs.declared.faults.LexFault.{LexFault}
 use Rattle.vl_lex.specs.declared.faults.LexFault.TheVariants as f
 use Rattle.vl_lex.specs.declared.faults.Wrong.{Wrong}
@@ -120,6 +124,26 @@ IsCharacterOrEnd r (Err w) = HasFault r w
 abbrev pub Quotes : Result (List ℕ × ℕ) FaultKind → Result Quoted Wrong → Type 0
 Quotes r (Ok x) = r ≡ Ok (x.text, x.used)
 Quotes r (Err w) = IsWrong r w
+
+-- ---- attributes
+
+-- how many of these bytes are the rest of the string in which they begin
+abbrev pub inside : Within → List ℕ → ℕ
+inside within.Outside bs = 0
+inside within.Quoted bs = string_length false false bs
+inside within.Escaping bs = string_length false true bs
+
+-- where the byte behind this one stands
+abbrev pub after_byte : Within → ℕ → Within
+after_byte within.Outside b = if b == 34 then within.Quoted else within.Outside
+after_byte within.Quoted b = if b == 34 || b == 10 then within.Outside else if b == 92 then within.Escaping else within.Quoted
+after_byte within.Escaping b = if b == 10 then within.Outside else within.Quoted
+
+-- the attribute ends here
+abbrev pub ends_attribute : Within → List ℕ → Bool
+ends_attribute within.Outside bs = a.closes_attribute bs
+ends_attribute within.Quoted bs = false
+ends_attribute within.Escaping bs = false
 
 -- ---- tokens
 

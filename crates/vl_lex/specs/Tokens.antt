@@ -12,7 +12,6 @@ use Rattle.vl_lex.specs.Words.{entry, keys, marks, systems}
 use Rattle.vl_lex.specs.Numbers.{Counted, number_at}
 use Rattle.vl_lex.specs.Strings.{string_at}
 use Rattle.vl_lex.specs.Attributes.{opens_attribute, close_from}
-use Rattle.vl_lex.specs.declared.attributes.Within.TheVariants as within
 
 -- ---- one token
 
@@ -136,7 +135,7 @@ token_piece (Err k) = Err k
 -- the piece by what it begins with
 abbrev pub piece_by : Lead → List ℕ → Result Piece FaultKind
 piece_by white bs = Ok (gap 1)
-piece_by attribute bs = attribute_piece (close_from within.Outside (drop 2 bs))
+piece_by attribute bs = attribute_piece (close_from (drop 2 bs))
 piece_by spelling bs = token_piece (token_at bs)
 
 -- the piece at the head of these bytes, or why none stands there

@@ -2,7 +2,7 @@
 
 ghost use Rattle.std.specs.Prelude.{◌≡◌, ◌+◌, ◌≤◌, ◌<◌, ◌∷◌, ◌^◌, length, IfSome, IsTrue};
 ghost use Rattle.vl_lex.specs.Attributes as a;
-ghost use Rattle.vl_lex.specs.declared.attributes.Within.TheVariants as within;
+ghost use Rattle.vl_lex.specs.Reading as r;
 
 use crate::bytes::{is_white, next};
 
@@ -58,7 +58,7 @@ pub fn opens_attribute(bytes: &[u8]) -> bool
 
 // Where the byte behind this one stands.
 fn after_byte(at: Within, byte: u8) -> Within
-    ensures { result ≡ a.after_byte at byte }
+    ensures { result ≡ r.after_byte at byte }
 {
     match at {
         Within::Outside => {
@@ -89,7 +89,7 @@ fn after_byte(at: Within, byte: u8) -> Within
 
 // Whether `*)` stands here.
 fn is_close(bytes: &[u8]) -> bool
-    ensures { result ≡ a.ends_attribute within.Outside bytes.now }
+    ensures { result ≡ a.closes_attribute bytes.now }
 {
     match next(bytes) {
         Some((first, behind)) => first == b'*' && begins_with(b')', behind),
@@ -99,7 +99,7 @@ fn is_close(bytes: &[u8]) -> bool
 
 // Whether the attribute ends here.
 fn ends_attribute(at: Within, bytes: &[u8]) -> bool
-    ensures { result ≡ a.ends_attribute at bytes.now }
+    ensures { result ≡ r.ends_attribute at bytes.now }
 {
     match at {
         Within::Outside => is_close(bytes),
@@ -110,7 +110,7 @@ fn ends_attribute(at: Within, bytes: &[u8]) -> bool
 
 /// How many bytes lead to the next `*)` outside strings, and it with them.
 pub fn close_length(bytes: &[u8]) -> Option<usize>
-    ensures length { result ≡ a.close_from within.Outside bytes.now }
+    ensures length { result ≡ a.close_from bytes.now }
     ensures within { IfSome result (λ n. n ≤ length bytes.now) }
 {
     let mut at = Within::Outside;

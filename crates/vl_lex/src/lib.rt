@@ -1,6 +1,6 @@
 //! Tokens: the clean text of a design as the list of what it is spelled of.
 //!
-//! Below: `vl_pre` (clean text), `vl_tree` (the tokens), `dt_core`. Above: nothing yet; `vl_front` reads by `plain_lex`.
+//! Below: `vl_pre` (clean text), `vl_tree` (the tokens), `dt_core`. Above: `vl_front`.
 //! Promise: `lex` gives exactly the tokens that `specs/Tokens` says, with the line of each, or the first fault with its line. A text has
 //! one list of tokens at most, and each token has the longest spelling that begins where it stands (`token_laws`).
 //! Not said: that memory is enough.
