@@ -212,6 +212,16 @@ attribute_passed = refl
 string_of_a_line : read (codes "(* \"*)\n*) a") ≡ Ok (on 2 (name (codes "a") ∷ []))
 string_of_a_line = refl
 
+-- a backslash joins no line to a string, and a CR alone is a byte of it
+ends_of_lines_in_attributes : read (codes "(* \"*)\\\n*) a (* \"*)\r\n*) b (* \"*)\r*)\" *) c") ≡ Ok (on 2 (name (codes "a") ∷ []) ++ on 3 (name (codes "b") ∷ name (codes "c") ∷ []))
+ends_of_lines_in_attributes = refl
+
+string_to_the_attributes_end : read (codes "(* \"*)") ≡ is_at bad_token 1
+string_to_the_attributes_end = refl
+
+stars_in_attributes : read (codes "(***) a (* * ) ( *) b") ≡ are (name (codes "a") ∷ name (codes "b") ∷ [])
+stars_in_attributes = refl
+
 shortest_attribute : read (codes "(**)a") ≡ are (name (codes "a") ∷ [])
 shortest_attribute = refl
 
