@@ -1,9 +1,13 @@
 -- The end of an attribute, as it is looked for.
-use Rattle.std.proofs.Common.{◌≡◌, ◌+◌, ◌-◌, ◌≤◌, ◌==◌, ◌&&◌, ◌||◌, not, ℕ, suc, Bool, true, false, List, [], ◌∷◌, refl, sym, subst, ap, ◌∙◌, arith, length, Option, Some, None, if◌then◌else◌}
+use Rattle.std.proofs.Common.{◌≡◌, ◌+◌, ◌-◌, ◌≤◌, ◌==◌, ◌&&◌, ◌||◌, not, ℕ, suc, Bool, true, false, List, [], ◌∷◌, ◌++◌, refl, sym, subst, ap, ◌∙◌, arith, drop, length, Option, Some, None, if◌then◌else◌}
+use Rattle.std.specs.Prelude.{codes}
 use Rattle.std.proofs.lemmas.Bool.{eqb-true, eqb-false}
+use Rattle.std.proofs.lemmas.Bool.Decides.{Decides-eqb}
+use Rattle.std.proofs.lemmas.List.{length-append}
+use Rattle.std.proofs.lemmas.Slice.Eq.{starts_is}
 use Rattle.vl_pre.specs.Bytes.{begins, at_line_end}
 use Rattle.vl_pre.specs.Pieces.{string_length}
-use Rattle.vl_lex.specs.Attributes.{begins_with, star_opens, opens_attribute, closes_attribute, string_behind, more, close_behind, close_from}
+use Rattle.vl_lex.specs.Attributes.{behind_white, opens_attribute, string_behind, more, close_behind, close_from}
 use Rattle.vl_lex.specs.Reading.{inside, ends_attribute, after_byte}
 use Rattle.vl_lex.specs.declared.attributes.Within.{Within}
 use Rattle.vl_lex.specs.declared.attributes.Within.TheVariants as within
@@ -27,7 +31,7 @@ later_more k (Some n) = ap Some (omega arith)
 abbrev Goes : Within → ℕ → List ℕ → Type 0
 Goes at b bs = close_behind (inside at (b ∷ bs)) (b ∷ bs) ≡ more (close_behind (inside (after_byte at b) bs) bs)
 
-outside : (b : ℕ) (bs : List ℕ) → closes_attribute (b ∷ bs) ≡ false → Goes within.Outside b bs
+outside : (b : ℕ) (bs : List ℕ) → begins (codes "*)") (b ∷ bs) ≡ false → Goes within.Outside b bs
 outside b bs h =
     let F : Bool → Type 0 = λ q. more (close_behind (if q then string_length false false bs else 0) bs) ≡ more (close_behind (inside (if q then within.Quoted else within.Outside) bs) bs) in
     let e : close_behind 0 (b ∷ bs) ≡ more (close_behind (string_behind b bs) bs) = rw h refl in
@@ -99,30 +103,32 @@ pub close_end : (all rest after : List ℕ) (at : Within) (b : ℕ) → rest ≡
     → close_from all ≡ later (length all - length rest) (close_behind (inside at rest) rest)
     → close_from all ≡ Some (length all - length rest + 2)
 close_end all rest after within.Outside b e h s =
-    let h' : closes_attribute (b ∷ after) ≡ true = ap closes_attribute (sym e) ∙ h in
+    let h' : begins (codes "*)") (b ∷ after) ≡ true = ap (begins (codes "*)")) (sym e) ∙ h in
     let c : close_behind 0 (b ∷ after) ≡ Some 2 = rw h' refl in
     s ∙ ap (λ x. later (length all - length rest) (close_behind 0 x)) e ∙ ap (later (length all - length rest)) c
 close_end all rest after within.Quoted b e h s = absurd cc
 close_end all rest after within.Escaping b e h s = absurd cc
 
--- an end has two bytes
-two_left : (x : Bool) (bs : List ℕ) → x && begins_with 41 bs ≡ true → 1 ≤ length bs
-two_left true [] h = absurd cc
-two_left true (b ∷ bs) h = omega arith
-two_left false bs h = absurd cc
+-- ---- what has two bytes
+
+begins_fits : (word bs : List ℕ) → begins word bs ≡ true → length word ≤ length bs
+begins_fits word bs h =
+    let rest : List ℕ = drop (length word) bs in
+    let e : bs ≡ word ++ rest = (starts_is Decides-eqb bs word (begins word bs) refl).0 h in
+    let l : length bs ≡ length word + length rest = ap length e ∙ length-append word rest in
+    omega (arith, l)
 
 pub end_fits : (at : Within) (bs : List ℕ) → ends_attribute at bs ≡ true → 2 ≤ length bs
-end_fits within.Outside [] h = absurd cc
-end_fits within.Outside (b ∷ bs) h = let t = two_left (b == 42) bs h in omega (arith, t)
+end_fits within.Outside bs h = begins_fits (codes "*)") bs h
 end_fits within.Quoted bs h = absurd cc
 end_fits within.Escaping bs h = absurd cc
 
--- an attribute has two bytes before its contents
-one_left : (x : Bool) (bs : List ℕ) → x && star_opens bs ≡ true → 1 ≤ length bs
-one_left true [] h = absurd cc
-one_left true (b ∷ bs) h = omega arith
-one_left false bs h = absurd cc
+pub mark_fits : (bs : List ℕ) → begins (codes "(*") bs ≡ true → 2 ≤ length bs
+mark_fits bs h = begins_fits (codes "(*") bs h
+
+first_of_both : (x y : Bool) → x && y ≡ true → x ≡ true
+first_of_both true y h = refl
+first_of_both false y h = absurd cc
 
 pub opening_fits : (bs : List ℕ) → opens_attribute bs ≡ true → 2 ≤ length bs
-opening_fits [] h = absurd cc
-opening_fits (b ∷ bs) h = let t = one_left (b == 40) bs h in omega (arith, t)
+opening_fits bs h = mark_fits bs (first_of_both (begins (codes "(*") bs) (not (begins (codes ")") (behind_white (drop 2 bs)))) h)

@@ -5,7 +5,7 @@ use Rattle.std.specs.List.{prefix_len, starts_with}
 use Rattle.std.proofs.lemmas.List.Folds.{length-prefix_len}
 use Rattle.vl_tree.specs.declared.token.Mark.{Mark}
 use Rattle.vl_tree.specs.Token.{Kind, Literal, name, system, number, str, mark}
-use Rattle.vl_pre.specs.Bytes.{name_length}
+use Rattle.vl_pre.specs.Bytes.{begins, name_length}
 use Rattle.vl_lex.specs.Faults.{FaultKind, bad_token, bad_number, open_string, unless}
 use Rattle.vl_lex.specs.Words.{entry, marks, systems}
 use Rattle.vl_lex.specs.Digits.{value_of}
@@ -131,15 +131,11 @@ abbrev character_size : Option (ℕ × ℕ) → ℕ
 character_size None = 1
 character_size (Some p) = p.1
 
-lf_less : (m : ℕ) (bs : List ℕ) → s.begins_with_lf bs ≡ false → s.begins_with_lf (take m bs) ≡ false
-lf_less zero bs e = refl
-lf_less (suc m) [] e = refl
-lf_less (suc m) (b ∷ bs) e = e
-
-line_by : (x y : Bool) (m : ℕ) (bs : List ℕ) → (x || (y && s.begins_with_lf bs)) ≡ false → (x || (y && s.begins_with_lf (take m bs))) ≡ false
-line_by true y m bs e = absurd cc
-line_by false true m bs e = lf_less m bs e
-line_by false false m bs e = refl
+line_less : (m b : ℕ) (bs : List ℕ) → s.ends_line (b ∷ bs) ≡ false → s.ends_line (b ∷ take m bs) ≡ false
+line_less m b bs e =
+    let x = begins_not (suc m) (b ∷ bs) (10 ∷ []) (or_first (begins (10 ∷ []) (b ∷ bs)) (begins (13 ∷ 10 ∷ []) (b ∷ bs)) e) in
+    let y = begins_not (suc m) (b ∷ bs) (13 ∷ 10 ∷ []) (or_second (begins (10 ∷ []) (b ∷ bs)) (begins (13 ∷ 10 ∷ []) (b ∷ bs)) e) in
+    ap (λ z. z || begins (13 ∷ 10 ∷ []) (b ∷ take m bs)) x ∙ y
 
 octal_ok : (c : ℕ) (bs : List ℕ) (p : ℕ × ℕ) → s.octal_digits c bs ≡ Some p → p.1 ≡ c
 octal_ok c bs p e = go (c == 0 || nat_le 256 (value_of 8 (take c bs))) e
@@ -210,7 +206,7 @@ no_end false y z b bs r e = refl
 character_stable : (m b : ℕ) (bs : List ℕ) (r : Option (ℕ × ℕ)) → s.character_at (b ∷ bs) ≡ Ok r → character_size r ≤ suc m → s.character_at (b ∷ take m bs) ≡ Ok r
 character_stable m b bs r e h =
     let x : s.ends_line (b ∷ bs) ≡ false = no_end (s.ends_line (b ∷ bs)) (b == 34) (b == 92) b bs r e in
-    let x' : s.ends_line (b ∷ take m bs) ≡ false = line_by (b == 10) (b == 13) m bs x in
+    let x' : s.ends_line (b ∷ take m bs) ≡ false = line_less m b bs x in
     ap (λ y. if y then Err open_string else if b == 34 then Ok None else if b == 92 then s.escaped (s.escape (take m bs)) else Ok (Some (b, 1))) x'
     ∙ character_by (s.ends_line (b ∷ bs)) (b == 34) (b == 92) b m bs r e h
 

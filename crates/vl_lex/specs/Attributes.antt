@@ -1,33 +1,17 @@
 -- Attributes, which are passed over (IEEE 1364-2005, 3.8; that their contents are strings and other bytes, and not looked at, is this
 -- project's own).
-use Rattle.std.specs.Prelude.{ℕ, zero, suc, ◌+◌, ◌==◌, Bool, false, not, ◌&&◌, if◌then◌else◌, List, [], ◌∷◌, Option, Some, None}
-use Rattle.vl_pre.specs.Bytes.{is_white}
+use Rattle.std.specs.Prelude.{ℕ, zero, suc, ◌+◌, ◌==◌, Bool, false, not, ◌&&◌, if◌then◌else◌, List, [], ◌∷◌, drop, Option, Some, None, codes}
+use Rattle.vl_pre.specs.Bytes.{begins, is_white}
 use Rattle.vl_pre.specs.Pieces.{string_length}
-
--- this byte comes
-abbrev pub begins_with : ℕ → List ℕ → Bool
-begins_with a [] = false
-begins_with a (b ∷ bs) = a == b
 
 -- what stands behind white space
 abbrev pub behind_white : List ℕ → List ℕ
 behind_white [] = []
 behind_white (b ∷ bs) = if is_white b then behind_white bs else b ∷ bs
 
--- `*`, not followed by `)` behind white space
-abbrev pub star_opens : List ℕ → Bool
-star_opens [] = false
-star_opens (b ∷ bs) = b == 42 && not (begins_with 41 (behind_white bs))
-
 -- `(*`, not followed by `)` behind white space
 abbrev pub opens_attribute : List ℕ → Bool
-opens_attribute [] = false
-opens_attribute (b ∷ bs) = b == 40 && star_opens bs
-
--- `*)` stands here
-abbrev pub closes_attribute : List ℕ → Bool
-closes_attribute [] = false
-closes_attribute (b ∷ bs) = b == 42 && begins_with 41 bs
+opens_attribute bs = begins (codes "(*") bs && not (begins (codes ")") (behind_white (drop 2 bs)))
 
 -- how many bytes of a string stand behind this byte: where it is a quote, those up to the next quote that no backslash escapes, that one
 -- included, or up to the end of the line or text
@@ -42,7 +26,7 @@ more (Some n) = Some (n + 1)
 -- how many bytes lead to the first `*)` outside strings, and it with them, where the first n bytes are the rest of a string
 abbrev pub close_behind : ℕ → List ℕ → Option ℕ
 close_behind n [] = None
-close_behind zero (b ∷ bs) = if closes_attribute (b ∷ bs) then Some 2 else more (close_behind (string_behind b bs) bs)
+close_behind zero (b ∷ bs) = if begins (codes "*)") (b ∷ bs) then Some 2 else more (close_behind (string_behind b bs) bs)
 close_behind (suc n) (b ∷ bs) = more (close_behind n bs)
 
 -- how many bytes lead from behind the `(*` of an attribute to the first `*)` outside strings, and it with them

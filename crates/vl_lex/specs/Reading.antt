@@ -1,5 +1,5 @@
 -- What the readers answer, beside what the definition says. This project's own.
-use Rattle.std.specs.Prelude.{ℕ, ◌^◌, ◌<◌, ◌≤◌, ◌≡◌, ◌==◌, Bool, true, false, ◌||◌, if◌then◌else◌, List, [], ◌∷◌, ◌++◌, ◌⊎◌, map, length, Option, Some, None, Result, Ok, Err}
+use Rattle.std.specs.Prelude.{ℕ, ◌^◌, ◌<◌, ◌≤◌, ◌≡◌, ◌==◌, Bool, true, false, ◌||◌, if◌then◌else◌, List, [], ◌∷◌, ◌++◌, ◌⊎◌, map, length, Option, Some, None, Result, Ok, Err, codes}
 use Rattle.vl_tree.specs.declared.token.Mark.{Mark}
 use Rattle.vl_tree.specs.declared.token.Literal as literal
 use Rattle.vl_tree.specs.declared.token.Token as code
@@ -7,8 +7,8 @@ use Rattle.vl_tree.specs.declared.token.TokenKind.{TokenKind}
 use Rattle.vl_tree.specs.Token.{mark, Tokens, Literal, literal_of, coded_kind}
 use Rattle.std.specs.Borrow.{Bor}
 use Rattle.vl_lex.specs.Faults.{FaultKind, bad_token, bad_number, too_wide, open_string, too_many_tokens, Fault}
+use Rattle.vl_pre.specs.Bytes.{begins}
 use Rattle.vl_pre.specs.Pieces.{string_length}
-use Rattle.vl_lex.specs.Attributes as a
 use Rattle.vl_lex.specs.Numbers as n
 use Rattle.vl_lex.specs.Tokens as t
 use Rattle.vl_lex.specs.declared.attributes.Within.{Within}
@@ -141,7 +141,7 @@ after_byte within.Escaping b = if b == 10 then within.Outside else within.Quoted
 
 -- the attribute ends here
 abbrev pub ends_attribute : Within → List ℕ → Bool
-ends_attribute within.Outside bs = a.closes_attribute bs
+ends_attribute within.Outside bs = begins (codes "*)") bs
 ends_attribute within.Quoted bs = false
 ends_attribute within.Escaping bs = false
 

@@ -1,7 +1,7 @@
 -- Strings: their spellings and the bytes that they stand for (IEEE 1364-2005, 3.6 and 3.6.3).
 use Rattle.std.specs.Prelude.{ℕ, zero, suc, ◌+◌, ◌==◌, nat_le, Bool, true, false, ◌&&◌, ◌||◌, if◌then◌else◌, List, [], ◌∷◌, take, drop, length, Option, Some, None, Result, Ok, Err}
 use Rattle.std.specs.List.{prefix_len}
-use Rattle.vl_pre.specs.Bytes.{between}
+use Rattle.vl_pre.specs.Bytes.{between, at_line_end}
 use Rattle.vl_lex.specs.Faults.{FaultKind, bad_token, open_string}
 use Rattle.vl_lex.specs.Digits.{value_of}
 
@@ -26,15 +26,10 @@ escape (b ∷ bs) =
     if b == 116 then Some (9, 1) else
     if b == 92 || b == 34 then Some (b, 1) else octal_escape (b ∷ bs)
 
--- a LF comes
-abbrev pub begins_with_lf : List ℕ → Bool
-begins_with_lf [] = false
-begins_with_lf (b ∷ bs) = b == 10
-
--- a line's end comes: LF, or CR and LF
+-- the text is over, or a line's end comes
 abbrev pub ends_line : List ℕ → Bool
 ends_line [] = true
-ends_line (b ∷ bs) = b == 10 || (b == 13 && begins_with_lf bs)
+ends_line (b ∷ bs) = at_line_end (b ∷ bs)
 
 -- an escape, whose backslash counts, or why it is none
 abbrev pub escaped : Option (ℕ × ℕ) → Result (Option (ℕ × ℕ)) FaultKind

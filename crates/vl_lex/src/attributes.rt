@@ -4,7 +4,7 @@ ghost use Rattle.std.specs.Prelude.{◌≡◌, ◌+◌, ◌≤◌, ◌<◌, ◌�
 ghost use Rattle.vl_lex.specs.Attributes as a;
 ghost use Rattle.vl_lex.specs.Reading as r;
 
-use crate::bytes::{is_white, next};
+use crate::bytes::{behind, is_white, next};
 
 /// Where a byte of an attribute stands: outside strings, in a string, or behind a backslash in one.
 #[derive(Clone, Copy, Debug, PartialEq, Eq)]
@@ -12,15 +12,6 @@ pub enum Within {
     Outside,
     Quoted,
     Escaping,
-}
-
-fn begins_with(byte: u8, bytes: &[u8]) -> bool
-    ensures { result ≡ a.begins_with byte bytes.now }
-{
-    match next(bytes) {
-        Some((first, _)) => byte == first,
-        None => false,
-    }
 }
 
 fn behind_white(bytes: &[u8]) -> &[u8]
@@ -36,24 +27,11 @@ fn behind_white(bytes: &[u8]) -> &[u8]
     rest
 }
 
-// The same behind a parenthesis.
-fn star_opens(bytes: &[u8]) -> bool
-    ensures { result ≡ a.star_opens bytes.now }
-{
-    match next(bytes) {
-        Some((first, behind)) => first == b'*' && !begins_with(b')', behind_white(behind)),
-        None => false,
-    }
-}
-
 /// Whether an attribute begins here: `(*`, not followed by `)` behind white space.
 pub fn opens_attribute(bytes: &[u8]) -> bool
     ensures { result ≡ a.opens_attribute bytes.now }
 {
-    match next(bytes) {
-        Some((first, behind)) => first == b'(' && star_opens(behind),
-        None => false,
-    }
+    bytes.starts_with(b"(*") && !behind_white(behind(bytes, 2)).starts_with(b")")
 }
 
 // Where the byte behind this one stands.
@@ -87,22 +65,12 @@ fn after_byte(at: Within, byte: u8) -> Within
     }
 }
 
-// Whether `*)` stands here.
-fn is_close(bytes: &[u8]) -> bool
-    ensures { result ≡ a.closes_attribute bytes.now }
-{
-    match next(bytes) {
-        Some((first, behind)) => first == b'*' && begins_with(b')', behind),
-        None => false,
-    }
-}
-
 // Whether the attribute ends here.
 fn ends_attribute(at: Within, bytes: &[u8]) -> bool
     ensures { result ≡ r.ends_attribute at bytes.now }
 {
     match at {
-        Within::Outside => is_close(bytes),
+        Within::Outside => bytes.starts_with(b"*)"),
         Within::Quoted => false,
         Within::Escaping => false,
     }

@@ -80,23 +80,11 @@ fn escape(bytes: &[u8]) -> Option<Character>
     octal_escape(bytes)
 }
 
-fn begins_with_lf(bytes: &[u8]) -> bool
-    ensures { result ≡ s.begins_with_lf bytes.now }
-{
-    match next(bytes) {
-        Some((first, _)) => first == b'\n',
-        None => false,
-    }
-}
-
 // The text is over, or a line's end comes: LF, or CR and LF.
 fn ends_line(bytes: &[u8]) -> bool
     ensures { result ≡ s.ends_line bytes.now }
 {
-    match next(bytes) {
-        Some((first, behind)) => first == b'\n' || first == b'\r' && begins_with_lf(behind),
-        None => true,
-    }
+    bytes.is_empty() || bytes.starts_with(b"\n") || bytes.starts_with(b"\r\n")
 }
 
 // The character of a string at the head: a byte, or none at the closing quote.
