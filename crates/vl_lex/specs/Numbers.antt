@@ -73,7 +73,8 @@ plain_number digits rest = let v = value_of 10 digits in
 -- the literal of this width and these digits; what of its value doesn't fit the width is cut on the left
 abbrev pub based_literal : ℕ → Bool → Bool → Base → List ℕ → Literal
 based_literal width sized signed base digits =
-    record { width = width; sized = sized; signed = signed; value = value_of (radix base) digits % 2 ^ width; wild = wild_of base width digits }
+    let value = value_of (radix base) digits % 2 ^ width in
+    record { width = width; sized = sized; signed = signed; value = value; wild = wild_of base width digits }
 
 -- the same, unless it is too wide
 abbrev pub literal_within : Bool → ℕ → Bool → Bool → Base → List ℕ → Result Literal FaultKind
@@ -83,7 +84,8 @@ literal_within false width sized signed base digits = Ok (based_literal width si
 -- the literal of this width: of 128 bits at most, and with digits below 2^128
 abbrev pub sized_literal : ℕ → Bool → Base → List ℕ → Result Literal FaultKind
 sized_literal width signed base digits =
-    unless (width == 0) bad_number (literal_within (nat_le 129 width || nat_le (2 ^ 128) (value_of (radix base) digits)) width true signed base digits)
+    let wide = nat_le 129 width || nat_le (2 ^ 128) (value_of (radix base) digits) in
+    unless (width == 0) bad_number (literal_within wide width true signed base digits)
 
 -- the literal without a size: of 32 bits, into which its digits fit
 abbrev pub unsized_literal : Bool → Base → List ℕ → Result Literal FaultKind
@@ -101,8 +103,10 @@ counted n (Err k) = Err k
 
 -- a based number, whose digits stand at the head of these bytes; its form is looked at before its value
 abbrev pub based_number : List ℕ → Format → List ℕ → Counted
-based_number size format bs = let n = digits_length format.base bs in
-    unless (n == 0 || goes_on (drop n bs)) bad_number (counted (length size + format.used + n) (literal_of_size size format.signed format.base (take n bs)))
+based_number size format bs =
+    let n = digits_length format.base bs in
+    let literal = literal_of_size size format.signed format.base (take n bs) in
+    unless (n == 0 || goes_on (drop n bs)) bad_number (counted (length size + format.used + n) literal)
 
 -- a number by what stands behind its first digits; an apostrophe that leads to no base begins no number
 abbrev pub number_by : List ℕ → Option Format → List ℕ → Counted

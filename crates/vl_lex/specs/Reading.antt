@@ -163,6 +163,11 @@ piece_of None n = t.gap n
 piece_of (Some k) n = t.spelt (coded_kind k) n
 
 -- the piece, or its fault
+abbrev pub StandsAlone : Result t.Piece FaultKind → Result code_piece.Piece Wrong → Type 0
+StandsAlone r (Ok p) = r ≡ Ok (piece_of p.token p.used)
+StandsAlone r (Err w) = HasFault r w
+
+-- the same, where the names and strings of a token want memory
 abbrev pub Stands : Result t.Piece FaultKind → Result code_piece.Piece Wrong → Type 0
 Stands r (Ok p) = r ≡ Ok (piece_of p.token p.used)
 Stands r (Err w) = IsWrong r w

@@ -51,7 +51,8 @@ longer b n (Ok s) = Ok (b ∷ s.0, n + s.1)
 longer b n (Err k) = Err k
 
 -- a character of a string, and what `more` reads behind it
-abbrev pub from_character : Result (Option (ℕ × ℕ)) FaultKind → List ℕ → (List ℕ → Result (List ℕ × ℕ) FaultKind) → Result (List ℕ × ℕ) FaultKind
+abbrev pub from_character : Result (Option (ℕ × ℕ)) FaultKind → List ℕ → (List ℕ → Result (List ℕ × ℕ) FaultKind)
+    → Result (List ℕ × ℕ) FaultKind
 from_character (Err k) bs more = Err k
 from_character (Ok None) bs more = Ok ([], 1)
 from_character (Ok (Some p)) bs more = longer p.0 p.1 (more (drop p.1 bs))

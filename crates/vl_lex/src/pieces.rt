@@ -2,7 +2,7 @@
 
 ghost use Rattle.std.specs.Prelude.{◌≡◌, ◌^◌, ◌≤◌, ◌<◌, ◌∷◌, ℕ, List, length, IfOk};
 ghost use Rattle.vl_lex.specs.Tokens as t;
-ghost use Rattle.vl_lex.specs.Reading.{Stands};
+ghost use Rattle.vl_lex.specs.Reading.{Stands, StandsAlone};
 
 use crate::attributes::{close_length, opens_attribute};
 use crate::bytes::{behind, is_white};
@@ -21,7 +21,7 @@ pub struct Piece {
 // The attribute at the head.
 fn read_attribute(bytes: &[u8]) -> Result<Piece, Wrong>
     requires opens { 2 ≤ length bytes.now }
-    ensures stands { Stands (t.piece_by t.attribute bytes.now) result }
+    ensures stands { StandsAlone (t.piece_by t.attribute bytes.now) result }
     ensures used { IfOk result (λ p. (0 < p.used) × (p.used ≤ length bytes.now)) }
 {
     match close_length(behind(bytes, 2)) {
