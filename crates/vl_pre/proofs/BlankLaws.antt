@@ -4,13 +4,9 @@ use Rattle.std.proofs.lemmas.List.{nil_from_length}
 use Rattle.std.specs.Prelude.{Option, Some, None, Result, Ok, Err}
 use Rattle.std.specs.Cmp.Lexicographic.{pointwise}
 use Rattle.indexmap.specs.IndexMap.{IndexMap, get}
-use Rattle.vl_pre.specs.declared.pieces.First.{First}
-use Rattle.vl_pre.specs.declared.pieces.First.TheVariants.{LineComment, BlockComment, Quote, Backslash, Tick, Plain}
-use Rattle.vl_pre.specs.declared.names.Ticked.{Ticked}
-use Rattle.vl_pre.specs.declared.names.Ticked.TheVariants.{NoName, Named, Macro}
 use Rattle.vl_pre.specs.Bytes.{Text, Placed, bytes, name_at, all_at, most_clean}
-use Rattle.vl_pre.specs.Pieces.{Part, Fault, fault, unknown_macro, macro_depth, fails, before, go_on, go_by, first}
-use Rattle.vl_pre.specs.Directives.{Macros, ticked}
+use Rattle.vl_pre.specs.Pieces.{Head, line_comment, block_comment, a_string, escaped_name, a_backtick, any_other, Part, Fault, fault, unknown_macro, macro_depth, fails, before, go_on, go_by, first}
+use Rattle.vl_pre.specs.Directives.{Ticked, no_name, a_directive, a_macro, Macros, ticked}
 use Rattle.vl_pre.specs.CleanText.{body_tick, body_piece, body_reading, expanded, use_of}
 use Rattle.vl_pre.specs.Reading.{IsBlank, KnowsBlanks, Notes, Wrote, Gives, EndsWith}
 use Rattle.std.proofs.lemmas.Slice.Eq.{bytes_eq-Decides}
@@ -26,18 +22,18 @@ pub sound_parts : (p : Part) (more : Text → Part) → (go_on p more).fault ≡
 sound_parts p more h = sound_by p.fault p more refl h
 
 tick_steady : (e f : List ℕ → Part) (line : ℕ) (t : Ticked) (ts : Text) → ((n : List ℕ) → (e n).fault ≡ None → f n ≡ e n) → (body_tick e line t ts).fault ≡ None → body_tick f line t ts ≡ body_tick e line t ts
-tick_steady e f line NoName ts same h = refl
-tick_steady e f line (Named d) ts same h = refl
-tick_steady e f line Macro ts same h = ap (λ (p : Part). record p { rest = drop (length (name_at ts)) ts }) (same (name_at ts) h)
+tick_steady e f line no_name ts same h = refl
+tick_steady e f line (a_directive d) ts same h = refl
+tick_steady e f line a_macro ts same h = ap (λ (p : Part). record p { rest = drop (length (name_at ts)) ts }) (same (name_at ts) h)
 
-piece_steady : (e f : List ℕ → Part) (line : ℕ) (x : First) (c : Placed) (ts : Text) → ((n : List ℕ) → (e n).fault ≡ None → f n ≡ e n) → (body_piece e line x c ts).fault ≡ None
+piece_steady : (e f : List ℕ → Part) (line : ℕ) (x : Head) (c : Placed) (ts : Text) → ((n : List ℕ) → (e n).fault ≡ None → f n ≡ e n) → (body_piece e line x c ts).fault ≡ None
     → body_piece f line x c ts ≡ body_piece e line x c ts
-piece_steady e f line Tick c ts same h = tick_steady e f line (ticked (name_at ts)) ts same h
-piece_steady e f line LineComment c ts same h = refl
-piece_steady e f line BlockComment c ts same h = refl
-piece_steady e f line Quote c ts same h = refl
-piece_steady e f line Backslash c ts same h = refl
-piece_steady e f line Plain c ts same h = refl
+piece_steady e f line a_backtick c ts same h = tick_steady e f line (ticked (name_at ts)) ts same h
+piece_steady e f line line_comment c ts same h = refl
+piece_steady e f line block_comment c ts same h = refl
+piece_steady e f line a_string c ts same h = refl
+piece_steady e f line escaped_name c ts same h = refl
+piece_steady e f line any_other c ts same h = refl
 
 -- a body reads the same where each use without fault gives the same
 body_steady : (e f : List ℕ → Part) (line n : ℕ) (ts : Text) → ((x : List ℕ) → (e x).fault ≡ None → f x ≡ e x) → (body_reading e line n ts).fault ≡ None → body_reading f line n ts ≡ body_reading e line n ts

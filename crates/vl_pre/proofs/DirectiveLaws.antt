@@ -5,10 +5,9 @@ use Rattle.std.specs.List.{prefix_len}
 use Rattle.std.proofs.lemmas.List.{reverse-append, reverse-reverse}
 use Rattle.vl_pre.specs.declared.fault.PreFault.{PreFault}
 use Rattle.vl_pre.specs.declared.place.Place as code
-use Rattle.vl_pre.specs.declared.names.Directive.TheVariants as dir
 use Rattle.vl_pre.specs.Bytes.{Text, bytes, begins, is_white}
 use Rattle.vl_pre.specs.Pieces.{Part, Fault, fault, bad_directive, and_then, rest_of_line}
-use Rattle.vl_pre.specs.Directives.{Place, After, name_of, without_blanks, trimmed, whole_by, line_of, define_by, defined, with_macros, directive_step}
+use Rattle.vl_pre.specs.Directives.{define, Place, After, name_of, without_blanks, trimmed, whole_by, line_of, define_by, defined, with_macros, directive_step}
 use Rattle.vl_pre.specs.Reading.{HasFault, PartHasFault, Kept, Goes}
 
 -- ---- white space at the end
@@ -44,19 +43,19 @@ line_fault p (Some f) h = ap (λ x. whole_by x p) h
 
 -- behind a NAME that isn't followed by `(`
 define_line : (line : ℕ) (place : Place) (ts us : Text) (name : List ℕ) → name_of line ts ≡ Ok (name, us) → begins (codes "(") (bytes us) ≡ false
-    → directive_step dir.Define line place ts ≡ and_then (line_of true us) (λ (body : List ℕ × Text). Ok (record { place = with_macros (defined name (trimmed body.0) place.macros) place; rest = body.1 }))
+    → directive_step define line place ts ≡ and_then (line_of true us) (λ (body : List ℕ × Text). Ok (record { place = with_macros (defined name (trimmed body.0) place.macros) place; rest = body.1 }))
 define_line line place ts us name named plain =
     ap (λ r. and_then r (λ (n : List ℕ × Text). define_by (begins (codes "(") (bytes n.1)) line place n.0 n.1)) named ∙ ap (λ b. define_by b line place name us) plain
 
 pub define_read : (line : ℕ) (place : Place) (ts us rest : Text) (name body : List ℕ) → name_of line ts ≡ Ok (name, us) → begins (codes "(") (bytes us) ≡ false
-    → Kept [] body rest (rest_of_line (length us) true us) → directive_step dir.Define line place ts ≡ Ok (record { place = with_macros (defined name (trimmed body) place.macros) place; rest = rest })
+    → Kept [] body rest (rest_of_line (length us) true us) → directive_step define line place ts ≡ Ok (record { place = with_macros (defined name (trimmed body) place.macros) place; rest = rest })
 define_read line place ts us rest name body named plain kept =
     define_line line place ts us name named plain
     ∙ ap (λ r. and_then r (λ (b : List ℕ × Text). Ok (record { place = with_macros (defined name (trimmed b.0) place.macros) place; rest = b.1 })))
     (line_read (rest_of_line (length us) true us) body rest kept)
 
 pub define_fault : (line : ℕ) (place : Place) (ts us : Text) (name : List ℕ) (o : Option Fault) → name_of line ts ≡ Ok (name, us) → begins (codes "(") (bytes us) ≡ false
-    → PartHasFault (rest_of_line (length us) true us) o → HasFault (directive_step dir.Define line place ts) o
+    → PartHasFault (rest_of_line (length us) true us) o → HasFault (directive_step define line place ts) o
 define_fault line place ts us name None named plain h = tt
 define_fault line place ts us name (Some f) named plain h =
     define_line line place ts us name named plain
@@ -64,6 +63,6 @@ define_fault line place ts us name (Some f) named plain h =
     (line_fault (rest_of_line (length us) true us) (Some f) h)
 
 pub define_paren : (line : ℕ) (place : Place) (ts us : Text) (name : List ℕ) → name_of line ts ≡ Ok (name, us) → begins (codes "(") (bytes us) ≡ true
-    → directive_step dir.Define line place ts ≡ Err (fault bad_directive line)
+    → directive_step define line place ts ≡ Err (fault bad_directive line)
 define_paren line place ts us name named paren =
     ap (λ r. and_then r (λ (n : List ℕ × Text). define_by (begins (codes "(") (bytes n.1)) line place n.0 n.1)) named ∙ ap (λ b. define_by b line place name us) paren

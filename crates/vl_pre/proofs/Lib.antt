@@ -1,6 +1,7 @@
 pub mod BlankLaws
 pub mod CleanLaws
 pub mod CleanTextExamples
+pub mod ConditionLaws
 pub mod CursorLaws
 pub mod DirectiveLaws
 pub mod KeptLaws

@@ -4,14 +4,14 @@ use Rattle.std.specs.Prelude.{Option, Some, None, Result, Ok, Err, codes}
 use Rattle.std.proofs.lemmas.List.{length-map}
 use Rattle.vl_pre.specs.declared.pieces.First.{First}
 use Rattle.vl_pre.specs.declared.pieces.First.TheVariants.{LineComment, BlockComment, Quote, Backslash, Tick, Plain}
-use Rattle.vl_pre.specs.declared.lines.InLine.{InLine}
-use Rattle.vl_pre.specs.declared.lines.InLine.TheVariants.{Continued, Inside}
-use Rattle.vl_pre.specs.declared.names.Ticked.{Ticked}
-use Rattle.vl_pre.specs.declared.names.Ticked.TheVariants.{NoName, Named, Macro}
 use Rattle.vl_pre.specs.declared.fault.PreFault.{PreFault}
+use Rattle.vl_pre.specs.declared.lines.InLine as next
+use Rattle.vl_pre.specs.declared.names.Ticked as tick
+use Rattle.vl_pre.specs.declared.names.Ticked.TheVariants as v
 use Rattle.vl_pre.specs.Bytes.{Text, Placed, bytes, begins, name_at}
-use Rattle.vl_pre.specs.Pieces.{Part, Fault, fault, bad_directive, gives, stops, go_on, and_then, from_stop, behind_block, blank, in_line, kept, kept_length, rest_of_line}
-use Rattle.vl_pre.specs.Directives.{ticked, at_gap, behind_one, behind_gap, macro_name, name_of}
+use Rattle.vl_pre.specs.Pieces.{line_comment, block_comment, InLine, continued, inside, Part, Fault, fault, bad_directive, gives, stops, go_on, and_then, from_stop, behind_block, blank, in_line, kept, kept_length, rest_of_line}
+use Rattle.vl_pre.specs.Directives.{Ticked, no_name, a_directive, a_macro, ticked, at_gap, behind_one, behind_gap, macro_name, name_of}
+use Rattle.vl_pre.specs.Views.{head_of, in_line_of, ticked_of}
 use Rattle.vl_pre.specs.Reading.{HasFault, PartHasFault, Keeps, ended, next_in_line, piece_at, piece_in_line, head_line}
 
 pub length-bytes : (ts : Text) → length (bytes ts) ≡ length ts
@@ -66,21 +66,32 @@ fault_then r more (Some f) h = ap (λ x. and_then x more) h
 
 -- ---- the NAME of a directive
 
-pub name_found : (line : ℕ) (ts rest new : Text) (name : List ℕ) → behind_gap (length ts) ts ≡ Ok rest → name ≡ name_at rest → ticked name ≡ Macro → new ≡ drop (length name) rest
+-- a use of a macro by the code's word and by the definition's
+pub macro_tick : (t : tick.Ticked) (x : Ticked) → ticked_of t ≡ x → t ≡ v.Macro → x ≡ a_macro
+macro_tick t x e is = sym e ∙ ap ticked_of is
+
+pub no_macro_tick : (t : tick.Ticked) (x : Ticked) → ticked_of t ≡ x → (t ≡ v.Macro → ⊥) → x ≡ a_macro → ⊥
+no_macro_tick v.NoName x e other is = let f : no_name ≡ a_macro = e ∙ is in cc
+no_macro_tick (v.Named d) x e other is = let f : a_directive _ ≡ a_macro = e ∙ is in cc
+no_macro_tick v.Macro x e other is = other refl
+
+pub name_found : (line : ℕ) (ts rest new : Text) (name : List ℕ) (t : tick.Ticked) → behind_gap (length ts) ts ≡ Ok rest → name ≡ name_at rest → ticked_of t ≡ ticked name → t ≡ v.Macro → new ≡ drop (length name) rest
     → name_of line ts ≡ Ok (name, new)
-name_found line ts rest new name gap is macro left =
-    let tick : ticked (name_at rest) ≡ Macro = ap ticked (sym is) ∙ macro in
-    ap (λ r. and_then r (λ (us : Text). macro_name line (ticked (name_at us)) us)) gap ∙ ap (λ t. macro_name line t rest) tick
+name_found line ts rest new name t gap is found macro left =
+    let found_macro : ticked (name_at rest) ≡ a_macro = ap ticked (sym is) ∙ macro_tick t (ticked name) found macro in
+    ap (λ r. and_then r (λ (us : Text). macro_name line (ticked (name_at us)) us)) gap ∙ ap (λ t. macro_name line t rest) found_macro
     ∙ (λ i. Ok (sym is i, (ap (λ n. drop (length n) rest) (sym is) ∙ sym left) i))
 
-no_macro : (line : ℕ) (t : Ticked) (ts : Text) → (t ≡ Macro → ⊥) → macro_name line t ts ≡ Err (fault bad_directive line)
-no_macro line NoName ts other = refl
-no_macro line (Named d) ts other = refl
-no_macro line Macro ts other = absurd (other refl)
+no_macro : (line : ℕ) (t : Ticked) (ts : Text) → (t ≡ a_macro → ⊥) → macro_name line t ts ≡ Err (fault bad_directive line)
+no_macro line no_name ts other = refl
+no_macro line (a_directive d) ts other = refl
+no_macro line a_macro ts other = absurd (other refl)
 
-pub name_missing : (line : ℕ) (ts rest : Text) (name : List ℕ) → behind_gap (length ts) ts ≡ Ok rest → name ≡ name_at rest → (ticked name ≡ Macro → ⊥) → name_of line ts ≡ Err (fault bad_directive line)
-name_missing line ts rest name gap is other =
-    ap (λ r. and_then r (λ (us : Text). macro_name line (ticked (name_at us)) us)) gap ∙ no_macro line (ticked (name_at rest)) rest (λ e. other (ap ticked is ∙ e))
+pub name_missing : (line : ℕ) (ts rest : Text) (name : List ℕ) (t : tick.Ticked) → behind_gap (length ts) ts ≡ Ok rest → name ≡ name_at rest → ticked_of t ≡ ticked name → (t ≡ v.Macro → ⊥)
+    → name_of line ts ≡ Err (fault bad_directive line)
+name_missing line ts rest name t gap is found other =
+    ap (λ r. and_then r (λ (us : Text). macro_name line (ticked (name_at us)) us)) gap
+    ∙ no_macro line (ticked (name_at rest)) rest (λ e. no_macro_tick t (ticked name) found other (ap ticked is ∙ e))
 
 -- ---- pieces
 
@@ -88,28 +99,28 @@ pub keeps_as : (old new : List ℕ) (rest : Text) (p q : Part) (r : Result (Unit
 keeps_as old new rest p q r e k = let P : Part → Type 0 = λ x. Keeps old new rest x r in subst P (sym e) k
 
 -- a backslash that continues a line
-pub continued_piece : (k : Bool) (ts us new : Text) (c : Placed) → ts ≡ c ∷ us → new ≡ drop (if begins (10 ∷ []) (bytes us) then 1 else 2) us → piece_in_line Continued k ts ≡ gives (blank c.line) new
-continued_piece k ts us new c e left = ap (piece_in_line Continued k) e ∙ ap (gives (blank c.line)) (sym left)
+pub continued_piece : (k : Bool) (ts us new : Text) (c : Placed) → ts ≡ c ∷ us → new ≡ drop (if begins (10 ∷ []) (bytes us) then 1 else 2) us → piece_in_line continued k ts ≡ gives (blank c.line) new
+continued_piece k ts us new c e left = ap (piece_in_line continued k) e ∙ ap (gives (blank c.line)) (sym left)
 
 -- a comment to the end of a line is no part of it, and else a blank
-pub line_comment_piece : (k : Bool) (ts new : Text) → 0 < length ts → new ≡ from_stop k (drop 1 ts) → piece_in_line (Inside LineComment) k ts ≡ gives [] new
+pub line_comment_piece : (k : Bool) (ts new : Text) → 0 < length ts → new ≡ from_stop k (drop 1 ts) → piece_in_line (inside line_comment) k ts ≡ gives [] new
 line_comment_piece k [] new some e = absurd (omega (arith, some))
 line_comment_piece k (c ∷ ts) new some e = ap (gives []) (sym e)
 
-pub line_comment_blank : (k : Bool) (ts us new : Text) (c : Placed) → ts ≡ c ∷ us → new ≡ from_stop k us → piece_at k LineComment ts ≡ gives (blank c.line) new
-line_comment_blank k ts us new c is e = ap (piece_at k LineComment) is ∙ ap (gives (blank c.line)) (sym e)
+pub line_comment_blank : (k : Bool) (ts us new : Text) (c : Placed) → ts ≡ c ∷ us → new ≡ from_stop k us → piece_at k line_comment ts ≡ gives (blank c.line) new
+line_comment_blank k ts us new c is e = ap (piece_at k line_comment) is ∙ ap (gives (blank c.line)) (sym e)
 
 -- any other comment is a blank
-pub block_blank : (k : Bool) (ts new : Text) (line : ℕ) → 0 < length ts → behind_block ts ≡ Ok new → line ≡ head_line ts → piece_at k BlockComment ts ≡ gives (blank line) new
+pub block_blank : (k : Bool) (ts new : Text) (line : ℕ) → 0 < length ts → behind_block ts ≡ Ok new → line ≡ head_line ts → piece_at k block_comment ts ≡ gives (blank line) new
 block_blank k [] new line some e l = absurd (omega (arith, some))
 block_blank k (c ∷ ts) new line some e l = rw e (ap (λ x. gives (blank x) new) (sym l))
 
-pub block_open : (k : Bool) (ts : Text) (f : Fault) → 0 < length ts → behind_block ts ≡ Err f → piece_at k BlockComment ts ≡ stops f
+pub block_open : (k : Bool) (ts : Text) (f : Fault) → 0 < length ts → behind_block ts ≡ Err f → piece_at k block_comment ts ≡ stops f
 block_open k [] f some e = absurd (omega (arith, some))
 block_open k (c ∷ ts) f some e = rw e refl
 
 -- all else is kept
-pub kept_piece : (k : Bool) (f : First) (ts : Text) → 0 < length ts → (f ≡ LineComment → ⊥) → (f ≡ BlockComment → ⊥) → piece_at k f ts ≡ kept (kept_length k f (bytes ts)) ts
+pub kept_piece : (k : Bool) (f : First) (ts : Text) → 0 < length ts → (f ≡ LineComment → ⊥) → (f ≡ BlockComment → ⊥) → piece_at k (head_of f) ts ≡ kept (kept_length k (head_of f) (bytes ts)) ts
 kept_piece k f [] some a b = absurd (omega (arith, some))
 kept_piece k LineComment (c ∷ ts) some a b = absurd (a refl)
 kept_piece k BlockComment (c ∷ ts) some a b = absurd (b refl)
@@ -119,7 +130,7 @@ kept_piece k Tick (c ∷ ts) some a b = refl
 kept_piece k Plain (c ∷ ts) some a b = refl
 
 -- in a line it is the same
-pub same_piece : (k : Bool) (f : First) (ts : Text) → (f ≡ LineComment → ⊥) → piece_in_line (Inside f) k ts ≡ piece_at k f ts
+pub same_piece : (k : Bool) (f : First) (ts : Text) → (f ≡ LineComment → ⊥) → piece_in_line (inside (head_of f)) k ts ≡ piece_at k (head_of f) ts
 same_piece k f [] a = refl
 same_piece k LineComment (c ∷ ts) a = absurd (a refl)
 same_piece k BlockComment (c ∷ ts) a = refl
@@ -128,11 +139,11 @@ same_piece k Backslash (c ∷ ts) a = refl
 same_piece k Tick (c ∷ ts) a = refl
 same_piece k Plain (c ∷ ts) a = refl
 
-pub block_in_line_open : (k : Bool) (ts : Text) (o : Option Fault) → 0 < length ts → HasFault (behind_block ts) o → PartHasFault (piece_in_line (Inside BlockComment) k ts) o
+pub block_in_line_open : (k : Bool) (ts : Text) (o : Option Fault) → 0 < length ts → HasFault (behind_block ts) o → PartHasFault (piece_in_line (inside block_comment) k ts) o
 block_in_line_open k ts None some h = tt
 block_in_line_open k [] (Some f) some h = absurd (omega (arith, some))
 block_in_line_open k (c ∷ ts) (Some f) some h = rw h refl
 
-pub next_piece : (k : Bool) (ts : Text) (i : InLine) → in_line k (bytes ts) ≡ i → next_in_line k ts ≡ piece_in_line i k ts
+pub next_piece : (k : Bool) (ts : Text) (i : next.InLine) → in_line_of i ≡ in_line k (bytes ts) → next_in_line k ts ≡ piece_in_line (in_line_of i) k ts
 next_piece k [] i e = refl
-next_piece k (c ∷ ts) i e = ap (λ x. piece_in_line x k (c ∷ ts)) e
+next_piece k (c ∷ ts) i e = ap (λ x. piece_in_line x k (c ∷ ts)) (sym e)

@@ -3,12 +3,14 @@ use Rattle.std.proofs.Common.{◌≡◌, ℕ, zero, suc, ◌-◌, ◌<◌, List,
 use Rattle.std.specs.Prelude.{Some, None}
 use Rattle.vl_pre.specs.declared.pieces.First.{First}
 use Rattle.vl_pre.specs.declared.pieces.First.TheVariants.{LineComment, BlockComment, Quote, Backslash, Tick, Plain}
-use Rattle.vl_pre.specs.declared.names.Ticked.{Ticked}
-use Rattle.vl_pre.specs.declared.names.Ticked.TheVariants.{NoName, Named, Macro}
+use Rattle.vl_pre.specs.declared.names.Ticked as tick
+use Rattle.vl_pre.specs.declared.names.Ticked.TheVariants as v
 use Rattle.vl_pre.specs.Bytes.{Text, bytes, name_at, all_at}
 use Rattle.vl_pre.specs.Pieces.{Part, unknown_macro, macro_depth, bad_directive, gives, fails, go_on, first}
-use Rattle.vl_pre.specs.Directives.{Macros, ticked}
+use Rattle.vl_pre.specs.Directives.{Ticked, no_name, a_directive, a_macro, Macros, ticked}
 use Rattle.vl_pre.specs.CleanText.{use_of, expanded, body_reading, body_tick}
+use Rattle.vl_pre.specs.Views.{head_of, ticked_of}
+use Rattle.vl_pre.proofs.LineLaws.{macro_tick, no_macro_tick}
 use Rattle.vl_pre.specs.Reading.{piece_at, body_piece_at, body_use_at}
 
 pub use_unknown : (depth : ℕ) (m : Macros) (line : ℕ) (name : List ℕ) → m name ≡ None → use_of depth m line name ≡ fails unknown_macro line
@@ -38,36 +40,34 @@ body_ended expand line zero [] e = refl
 body_ended expand line (suc n) [] e = refl
 body_ended expand line n (c ∷ ts) e = absurd cc
 
-pub body_use : (expand : List ℕ → Part) (line : ℕ) (ts : Text) → 0 < length ts → first (bytes ts) ≡ Tick → body_piece_at expand line ts ≡ body_use_at expand line ts
-body_use expand line [] some e = absurd (omega (arith, some))
-body_use expand line (c ∷ ts) some e = rw e refl
+pub body_use : (expand : List ℕ → Part) (line : ℕ) (ts : Text) (f : First) → 0 < length ts → head_of f ≡ first (bytes ts) → f ≡ Tick → body_piece_at expand line ts ≡ body_use_at expand line ts
+body_use expand line [] f some e is = absurd (omega (arith, some))
+body_use expand line (c ∷ ts) f some e is = let h = sym e ∙ ap head_of is in rw h refl
 
-body_own_by : (expand : List ℕ → Part) (line : ℕ) (ts : Text) (f : First) → first (bytes ts) ≡ f → (f ≡ Tick → ⊥) → body_piece_at expand line ts ≡ piece_at false f ts
-body_own_by expand line [] f e other = refl
-body_own_by expand line (c ∷ ts) Tick e other = absurd (other refl)
-body_own_by expand line (c ∷ ts) LineComment e other = rw e refl
-body_own_by expand line (c ∷ ts) BlockComment e other = rw e refl
-body_own_by expand line (c ∷ ts) Quote e other = rw e refl
-body_own_by expand line (c ∷ ts) Backslash e other = rw e refl
-body_own_by expand line (c ∷ ts) Plain e other = rw e refl
+pub body_own : (expand : List ℕ → Part) (line : ℕ) (ts : Text) (f : First) → head_of f ≡ first (bytes ts) → (f ≡ Tick → ⊥) → body_piece_at expand line ts ≡ piece_at false (head_of f) ts
+body_own expand line [] f e other = refl
+body_own expand line (c ∷ ts) Tick e other = absurd (other refl)
+body_own expand line (c ∷ ts) LineComment e other = let h = sym e in rw h refl
+body_own expand line (c ∷ ts) BlockComment e other = let h = sym e in rw h refl
+body_own expand line (c ∷ ts) Quote e other = let h = sym e in rw h refl
+body_own expand line (c ∷ ts) Backslash e other = let h = sym e in rw h refl
+body_own expand line (c ∷ ts) Plain e other = let h = sym e in rw h refl
 
-pub body_own : (expand : List ℕ → Part) (line : ℕ) (ts : Text) (f : First) → first (bytes ts) ≡ f → (f ≡ Tick → ⊥) → body_piece_at expand line ts ≡ piece_at false f ts
-body_own expand line ts f e other = body_own_by expand line ts f e other
+no_use : (expand : List ℕ → Part) (line : ℕ) (t : Ticked) (ts : Text) → (t ≡ a_macro → ⊥) → body_tick expand line t ts ≡ fails bad_directive line
+no_use expand line no_name ts other = refl
+no_use expand line (a_directive d) ts other = refl
+no_use expand line a_macro ts other = absurd (other refl)
 
-no_use : (expand : List ℕ → Part) (line : ℕ) (t : Ticked) (ts : Text) → (t ≡ Macro → ⊥) → body_tick expand line t ts ≡ fails bad_directive line
-no_use expand line NoName ts other = refl
-no_use expand line (Named d) ts other = refl
-no_use expand line Macro ts other = absurd (other refl)
-
-pub use_missing : (expand : List ℕ → Part) (line : ℕ) (ts us : Text) (name : List ℕ) → us ≡ drop 1 ts → name ≡ name_at us → (ticked name ≡ Macro → ⊥) → body_use_at expand line ts ≡ fails bad_directive line
-use_missing expand line ts us name behind is other =
+pub use_missing : (expand : List ℕ → Part) (line : ℕ) (ts us : Text) (name : List ℕ) (t : tick.Ticked) → us ≡ drop 1 ts → name ≡ name_at us → ticked_of t ≡ ticked name → (t ≡ v.Macro → ⊥)
+    → body_use_at expand line ts ≡ fails bad_directive line
+use_missing expand line ts us name t behind is found other =
     let here : name ≡ name_at (drop 1 ts) = is ∙ ap name_at behind in
-    no_use expand line (ticked (name_at (drop 1 ts))) (drop 1 ts) (λ e. other (ap ticked here ∙ e))
+    no_use expand line (ticked (name_at (drop 1 ts))) (drop 1 ts) (λ e. no_macro_tick t (ticked name) found other (ap ticked here ∙ e))
 
-pub use_found : (expand : List ℕ → Part) (line : ℕ) (ts us new : Text) (name : List ℕ) → us ≡ drop 1 ts → name ≡ name_at us → ticked name ≡ Macro → new ≡ drop (length name) us
+pub use_found : (expand : List ℕ → Part) (line : ℕ) (ts us new : Text) (name : List ℕ) (t : tick.Ticked) → us ≡ drop 1 ts → name ≡ name_at us → ticked_of t ≡ ticked name → t ≡ v.Macro → new ≡ drop (length name) us
     → body_use_at expand line ts ≡ record (expand name) { rest = new }
-use_found expand line ts us new name behind is macro left =
+use_found expand line ts us new name t behind is tells macro left =
     let here : name ≡ name_at (drop 1 ts) = is ∙ ap name_at behind in
-    let found : ticked (name_at (drop 1 ts)) ≡ Macro = ap ticked (sym here) ∙ macro in
+    let found : ticked (name_at (drop 1 ts)) ≡ a_macro = ap ticked (sym here) ∙ macro_tick t (ticked name) tells macro in
     ap (λ t. body_tick expand line t (drop 1 ts)) found
     ∙ (λ i. record (expand (sym here i)) { rest = (ap (λ n. drop (length n) (drop 1 ts)) (sym here) ∙ ap (drop (length name)) (sym behind) ∙ sym left) i })

@@ -1,11 +1,10 @@
--- Plain text comes through, and a plain body with the use of its macro.
+-- any_other text comes through, and a plain body with the use of its macro.
 use Rattle.std.proofs.Common.{◌≡◌, ◌≤◌, ◌&&◌, not, ℕ, zero, suc, Bool, true, false, List, [], ◌∷◌, take, drop, length, refl, ap, ◌∙◌, arith, ◌⊎◌, inl, inr}
 use Rattle.std.specs.Prelude.{None, codes}
 use Rattle.std.proofs.Math.ListN.{drop_of_length-le}
 use Rattle.std.proofs.lemmas.List.{take-append-drop, length-drop, length-map}
-use Rattle.vl_pre.specs.declared.pieces.First.TheVariants.{Quote, Backslash, Plain}
 use Rattle.vl_pre.specs.Bytes.{Text, Placed, at_line, bytes, begins, placed, all_at, is_allowed, most_clean}
-use Rattle.vl_pre.specs.Pieces.{Part, gives, before, go_on, first, as_it_stands, kept, string_length, escaped_length}
+use Rattle.vl_pre.specs.Pieces.{a_string, escaped_name, any_other, Part, gives, before, go_on, first, as_it_stands, kept, string_length, escaped_length}
 use Rattle.vl_pre.specs.Directives.{Place}
 use Rattle.vl_pre.specs.CleanText.{Step, step, body_piece, body_reading, expanded, use_of, reading_from, reading, start, answer, within}
 use Rattle.vl_pre.specs.Laws.{is_plain, PlainComesThrough, UseReadsAsBody}
@@ -66,7 +65,7 @@ plain_reads read none next (suc n) (c ∷ ts) room h =
 
 -- what a plain text begins with
 plain_first : (c : Placed) (ts : Text) (q s : Bool) → PlainHead c.byte (bytes ts) → begins (34 ∷ []) (bytes (c ∷ ts)) ≡ q → begins (92 ∷ []) (bytes (c ∷ ts)) ≡ s
-    → (first (bytes (c ∷ ts)) ≡ Quote) ⊎ ((first (bytes (c ∷ ts)) ≡ Backslash) ⊎ (first (bytes (c ∷ ts)) ≡ Plain))
+    → (first (bytes (c ∷ ts)) ≡ a_string) ⊎ ((first (bytes (c ∷ ts)) ≡ escaped_name) ⊎ (first (bytes (c ∷ ts)) ≡ any_other))
 plain_first c ts true s p e f = let a = p.no_line in let b = p.no_block in inl (rw (a, b, e) refl)
 plain_first c ts false true p e f = let a = p.no_line in let b = p.no_block in inr (inl (rw (a, b, e, f) refl))
 plain_first c ts false false p e f = let a = p.no_line in let b = p.no_block in let t = p.no_tick in inr (inr (rw (a, b, e, f, t) refl))
@@ -76,18 +75,18 @@ plain_first c ts false false p e f = let a = p.no_line in let b = p.no_block in 
 abbrev keeps : ℕ → Place → Placed → Text → Step
 keeps j place c ts = record { part = kept (suc j) (c ∷ ts); place = place }
 
-step_by : (place : Place) (c : Placed) (ts : Text) → (first (bytes (c ∷ ts)) ≡ Quote) ⊎ ((first (bytes (c ∷ ts)) ≡ Backslash) ⊎ (first (bytes (c ∷ ts)) ≡ Plain)) → (j : ℕ) × (step true place c ts ≡ keeps j place c ts)
+step_by : (place : Place) (c : Placed) (ts : Text) → (first (bytes (c ∷ ts)) ≡ a_string) ⊎ ((first (bytes (c ∷ ts)) ≡ escaped_name) ⊎ (first (bytes (c ∷ ts)) ≡ any_other)) → (j : ℕ) × (step true place c ts ≡ keeps j place c ts)
 step_by place c ts (inl e) = (string_length false false (bytes ts), rw e refl)
 step_by place c ts (inr (inl e)) = (escaped_length false (bytes ts), rw e refl)
 step_by place c ts (inr (inr e)) = (0, rw e refl)
 
-piece_by : (expand : List ℕ → Part) (line : ℕ) (c : Placed) (ts : Text) → (first (bytes (c ∷ ts)) ≡ Quote) ⊎ ((first (bytes (c ∷ ts)) ≡ Backslash) ⊎ (first (bytes (c ∷ ts)) ≡ Plain))
+piece_by : (expand : List ℕ → Part) (line : ℕ) (c : Placed) (ts : Text) → (first (bytes (c ∷ ts)) ≡ a_string) ⊎ ((first (bytes (c ∷ ts)) ≡ escaped_name) ⊎ (first (bytes (c ∷ ts)) ≡ any_other))
     → (j : ℕ) × (body_piece expand line (first (bytes (c ∷ ts))) c ts ≡ kept (suc j) (c ∷ ts))
 piece_by expand line c ts (inl e) = (string_length false false (bytes ts), rw e refl)
 piece_by expand line c ts (inr (inl e)) = (escaped_length false (bytes ts), rw e refl)
 piece_by expand line c ts (inr (inr e)) = (0, rw e refl)
 
-begins_so : (c : Placed) (ts : Text) → is_plain (bytes (c ∷ ts)) ≡ true → (first (bytes (c ∷ ts)) ≡ Quote) ⊎ ((first (bytes (c ∷ ts)) ≡ Backslash) ⊎ (first (bytes (c ∷ ts)) ≡ Plain))
+begins_so : (c : Placed) (ts : Text) → is_plain (bytes (c ∷ ts)) ≡ true → (first (bytes (c ∷ ts)) ≡ a_string) ⊎ ((first (bytes (c ∷ ts)) ≡ escaped_name) ⊎ (first (bytes (c ∷ ts)) ≡ any_other))
 begins_so c ts h = plain_first c ts (begins (34 ∷ []) (bytes (c ∷ ts))) (begins (92 ∷ []) (bytes (c ∷ ts))) (plain_head c.byte (bytes ts) h) refl refl
 
 reading_none : (n : ℕ) → reading_from n start [] ≡ gives [] []

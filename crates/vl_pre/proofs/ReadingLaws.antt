@@ -4,16 +4,16 @@ use Rattle.std.specs.Prelude.{Option, Some, None, Result, Ok, Err}
 use Rattle.std.proofs.Math.ListN.{drop_of_length-le}
 use Rattle.vl_pre.specs.declared.pieces.First.{First}
 use Rattle.vl_pre.specs.declared.pieces.First.TheVariants.{LineComment, BlockComment, Quote, Backslash, Tick, Plain}
-use Rattle.vl_pre.specs.declared.names.Directive.{Directive}
-use Rattle.vl_pre.specs.declared.names.Ticked.{Ticked}
-use Rattle.vl_pre.specs.declared.names.Ticked.TheVariants.{NoName, Named, Macro}
-use Rattle.vl_pre.specs.declared.conditions.Condition.{Condition}
+use Rattle.vl_pre.specs.declared.names.Directive as word
+use Rattle.vl_pre.specs.declared.names.Ticked as tick
+use Rattle.vl_pre.specs.declared.names.Ticked.TheVariants as v
 use Rattle.vl_pre.specs.declared.fault.PreFault.{PreFault}
 use Rattle.vl_pre.specs.declared.place.Place as code
 use Rattle.vl_pre.specs.Bytes.{Text, Placed, bytes, placed, line_behind, name_at, most_clean}
 use Rattle.vl_pre.specs.Pieces.{Part, Fault, gives, go_on, and_then, first, from_stop, behind_block, kept_length}
-use Rattle.vl_pre.specs.Directives.{Place, After, went, is_read, ticked, is_conditional, directive_step}
+use Rattle.vl_pre.specs.Directives.{Ticked, Condition, Place, After, went, is_read, ticked, is_conditional, directive_step}
 use Rattle.vl_pre.specs.CleanText.{Step, nothing, tick_step, skipped_tick, at_end, reading_from, reading, start, answer, within, clean_text}
+use Rattle.vl_pre.specs.Views.{head_of, ticked_of, directive_of}
 use Rattle.vl_pre.specs.Reading.{told, HasFault, PartHasFault, EndsWith, Wrote, Writes, Gives, Goes, Finishes, Steps, place_of, piece_at, step_at, tick_at, skipped_at, skipped_tick_at}
 use Rattle.vl_pre.proofs.WriteLaws.{Leads, leads_as, leads_ends, leads_done, ends_stop, ends_anywhere, ends_fails}
 
@@ -77,18 +77,18 @@ use_steps old new rest place p (Err f) w = ends_anywhere old rest p (told f) w
 
 -- ---- text that is read
 
-pub own_step : (place : Place) (ts : Text) (f : First) → first (bytes ts) ≡ f → (f ≡ Tick → ⊥) → step_at true place ts ≡ record { part = piece_at false f ts; place = place }
+pub own_step : (place : Place) (ts : Text) (f : First) → head_of f ≡ first (bytes ts) → (f ≡ Tick → ⊥) → step_at true place ts ≡ record { part = piece_at false (head_of f) ts; place = place }
 own_step place [] f e other = refl
 own_step place (c ∷ ts) Tick e other = absurd (other refl)
-own_step place (c ∷ ts) LineComment e other = rw e refl
-own_step place (c ∷ ts) BlockComment e other = rw e refl
-own_step place (c ∷ ts) Quote e other = rw e refl
-own_step place (c ∷ ts) Backslash e other = rw e refl
-own_step place (c ∷ ts) Plain e other = rw e refl
+own_step place (c ∷ ts) LineComment e other = let h = sym e in rw h refl
+own_step place (c ∷ ts) BlockComment e other = let h = sym e in rw h refl
+own_step place (c ∷ ts) Quote e other = let h = sym e in rw h refl
+own_step place (c ∷ ts) Backslash e other = let h = sym e in rw h refl
+own_step place (c ∷ ts) Plain e other = let h = sym e in rw h refl
 
-pub ticked_step : (place : Place) (ts : Text) → first (bytes ts) ≡ Tick → step_at true place ts ≡ tick_at place ts
-ticked_step place [] e = refl
-ticked_step place (c ∷ ts) e = rw e refl
+pub ticked_step : (place : Place) (ts : Text) (f : First) → head_of f ≡ first (bytes ts) → f ≡ Tick → step_at true place ts ≡ tick_at place ts
+ticked_step place [] f e is = refl
+ticked_step place (c ∷ ts) f e is = let h = sym e ∙ ap head_of is in rw h refl
 
 pub tick_of : (place : Place) (ts us : Text) (c : Placed) (name : List ℕ) (t : Ticked) → ts ≡ c ∷ us → name ≡ name_at us → ticked name ≡ t → tick_at place ts ≡ tick_step t c.line place us
 tick_of place ts us c name t e is found = ap (tick_at place) e ∙ ap (λ x. tick_step x c.line place us) (ap ticked (sym is) ∙ found)
@@ -99,46 +99,49 @@ pub skipped_text : (place : Place) (ts : Text) → 0 < length ts → step_at fal
 skipped_text place [] some = absurd (omega (arith, some))
 skipped_text place (c ∷ ts) some = refl
 
-pub skipped_line : (place : Place) (ts new : Text) → 0 < length ts → first (bytes ts) ≡ LineComment → new ≡ from_stop false (drop 1 ts) → skipped_at place ts ≡ went place new
-skipped_line place [] new some e h = absurd (omega (arith, some))
-skipped_line place (c ∷ ts) new some e h = rw e (ap (went place) (sym h))
+pub skipped_line : (place : Place) (ts new : Text) (f : First) → 0 < length ts → head_of f ≡ first (bytes ts) → f ≡ LineComment → new ≡ from_stop false (drop 1 ts) → skipped_at place ts ≡ went place new
+skipped_line place [] new f some e is h = absurd (omega (arith, some))
+skipped_line place (c ∷ ts) new f some e is h = let k = sym e ∙ ap head_of is in rw k (ap (went place) (sym h))
 
-pub skipped_block : (place : Place) (ts : Text) → first (bytes ts) ≡ BlockComment → skipped_at place ts ≡ and_then (behind_block ts) (went place)
-skipped_block place [] e = refl
-skipped_block place (c ∷ ts) e = rw e refl
+pub skipped_block : (place : Place) (ts : Text) (f : First) → head_of f ≡ first (bytes ts) → f ≡ BlockComment → skipped_at place ts ≡ and_then (behind_block ts) (went place)
+skipped_block place [] f e is = refl
+skipped_block place (c ∷ ts) f e is = let k = sym e ∙ ap head_of is in rw k refl
 
-pub skipped_string : (place : Place) (ts new : Text) → 0 < length ts → first (bytes ts) ≡ Quote → new ≡ drop (kept_length false Quote (bytes ts)) ts → skipped_at place ts ≡ went place new
-skipped_string place [] new some e h = absurd (omega (arith, some))
-skipped_string place (c ∷ ts) new some e h = rw e (ap (went place) (sym h))
+pub skipped_string : (place : Place) (ts new : Text) (f : First) → 0 < length ts → head_of f ≡ first (bytes ts) → f ≡ Quote → new ≡ drop (kept_length false (head_of f) (bytes ts)) ts → skipped_at place ts ≡ went place new
+skipped_string place [] new f some e is h = absurd (omega (arith, some))
+skipped_string place (c ∷ ts) new f some e is h =
+    let k = sym e ∙ ap head_of is in
+    let left = h ∙ ap (λ x. drop (kept_length false (head_of x) (bytes (c ∷ ts))) (c ∷ ts)) is in rw k (ap (went place) (sym left))
 
-pub skipped_ticked : (place : Place) (ts : Text) → first (bytes ts) ≡ Tick → skipped_at place ts ≡ skipped_tick_at place ts
-skipped_ticked place [] e = refl
-skipped_ticked place (c ∷ ts) e = rw e refl
+pub skipped_ticked : (place : Place) (ts : Text) (f : First) → head_of f ≡ first (bytes ts) → f ≡ Tick → skipped_at place ts ≡ skipped_tick_at place ts
+skipped_ticked place [] f e is = refl
+skipped_ticked place (c ∷ ts) f e is = let k = sym e ∙ ap head_of is in rw k refl
 
-pub skipped_other : (place : Place) (ts new : Text) (f : First) → 0 < length ts → first (bytes ts) ≡ f → (f ≡ LineComment → ⊥) → (f ≡ BlockComment → ⊥) → (f ≡ Quote → ⊥) → (f ≡ Tick → ⊥) → new ≡ drop 1 ts
+pub skipped_other : (place : Place) (ts new : Text) (f : First) → 0 < length ts → head_of f ≡ first (bytes ts) → (f ≡ LineComment → ⊥) → (f ≡ BlockComment → ⊥) → (f ≡ Quote → ⊥) → (f ≡ Tick → ⊥) → new ≡ drop 1 ts
     → skipped_at place ts ≡ went place new
 skipped_other place [] new f some e a b q t h = absurd (omega (arith, some))
 skipped_other place (c ∷ ts) new LineComment some e a b q t h = absurd (a refl)
 skipped_other place (c ∷ ts) new BlockComment some e a b q t h = absurd (b refl)
 skipped_other place (c ∷ ts) new Quote some e a b q t h = absurd (q refl)
 skipped_other place (c ∷ ts) new Tick some e a b q t h = absurd (t refl)
-skipped_other place (c ∷ ts) new Backslash some e a b q t h = rw e (ap (went place) (sym h))
-skipped_other place (c ∷ ts) new Plain some e a b q t h = rw e (ap (went place) (sym h))
+skipped_other place (c ∷ ts) new Backslash some e a b q t h = let k = sym e in rw k (ap (went place) (sym h))
+skipped_other place (c ∷ ts) new Plain some e a b q t h = let k = sym e in rw k (ap (went place) (sym h))
 
-pub skipped_tick_of : (place : Place) (ts us : Text) (c : Placed) (name : List ℕ) (t : Ticked) → ts ≡ c ∷ us → name ≡ name_at us → ticked name ≡ t → skipped_tick_at place ts ≡ skipped_tick t c.line place us
-skipped_tick_of place ts us c name t e is found = ap (skipped_tick_at place) e ∙ ap (λ x. skipped_tick x c.line place us) (ap ticked (sym is) ∙ found)
+pub skipped_tick_of : (place : Place) (ts us : Text) (c : Placed) (name : List ℕ) (t : tick.Ticked) → ts ≡ c ∷ us → name ≡ name_at us → ticked_of t ≡ ticked name
+    → skipped_tick_at place ts ≡ skipped_tick (ticked_of t) c.line place us
+skipped_tick_of place ts us c name t e is found = ap (skipped_tick_at place) e ∙ ap (λ x. skipped_tick x c.line place us) (ap ticked (sym is) ∙ sym found)
 
-pub no_directive : (t : Ticked) (line : ℕ) (place : Place) (ts : Text) → ((d : Directive) → t ≡ Named d → ⊥) → skipped_tick t line place ts ≡ went place ts
-no_directive NoName line place ts other = refl
-no_directive Macro line place ts other = refl
-no_directive (Named d) line place ts other = absurd (other d refl)
+pub no_directive : (t : tick.Ticked) (line : ℕ) (place : Place) (ts : Text) → ((d : word.Directive) → t ≡ v.Named d → ⊥) → skipped_tick (ticked_of t) line place ts ≡ went place ts
+no_directive v.NoName line place ts other = refl
+no_directive v.Macro line place ts other = refl
+no_directive (v.Named d) line place ts other = absurd (other d refl)
 
-pub no_conditional : (d : Directive) (line : ℕ) (place : Place) (ts : Text) → is_conditional d ≡ false → skipped_tick (Named d) line place ts ≡ went place ts
+pub no_conditional : (d : word.Directive) (line : ℕ) (place : Place) (ts : Text) → is_conditional (directive_of d) ≡ false → skipped_tick (ticked_of (v.Named d)) line place ts ≡ went place ts
 no_conditional d line place ts e = rw e refl
 
-pub conditional : (d : Directive) (line : ℕ) (place : Place) (ts new : Text) (name : List ℕ) → is_conditional d ≡ true → name ≡ name_at ts → new ≡ drop (length name) ts
-    → skipped_tick (Named d) line place ts ≡ directive_step d line place new
-conditional d line place ts new name e is h = rw e (ap (directive_step d line place) (ap (λ x. drop (length x) ts) (sym is) ∙ sym h))
+pub conditional : (d : word.Directive) (line : ℕ) (place : Place) (ts new : Text) (name : List ℕ) → is_conditional (directive_of d) ≡ true → name ≡ name_at ts → new ≡ drop (length name) ts
+    → skipped_tick (ticked_of (v.Named d)) line place ts ≡ directive_step (directive_of d) line place new
+conditional d line place ts new name e is h = rw e (ap (directive_step (directive_of d) line place) (ap (λ x. drop (length x) ts) (sym is) ∙ sym h))
 
 -- ---- the whole text
 

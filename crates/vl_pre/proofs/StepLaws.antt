@@ -2,18 +2,9 @@
 use Rattle.std.proofs.Common.{◌≡◌, ◌≤◌, ◌<◌, ◌-◌, ℕ, zero, suc, Bool, true, false, List, [], ◌∷◌, take, drop, length, refl, sym, subst, ap, ◌∙◌, arith, if◌then◌else◌}
 use Rattle.std.specs.Prelude.{Option, Some, None, Result, Ok, Err, codes}
 use Rattle.std.proofs.lemmas.List.{length-drop}
-use Rattle.vl_pre.specs.declared.pieces.First.{First}
-use Rattle.vl_pre.specs.declared.pieces.First.TheVariants.{LineComment, BlockComment, Quote, Backslash, Tick, Plain}
-use Rattle.vl_pre.specs.declared.lines.InLine.{InLine}
-use Rattle.vl_pre.specs.declared.lines.InLine.TheVariants.{Continued, Inside}
-use Rattle.vl_pre.specs.declared.names.Directive.{Directive}
-use Rattle.vl_pre.specs.declared.names.Directive.TheVariants as dir
-use Rattle.vl_pre.specs.declared.names.Ticked.{Ticked}
-use Rattle.vl_pre.specs.declared.names.Ticked.TheVariants.{NoName, Named, Macro}
-use Rattle.vl_pre.specs.declared.conditions.Condition.{Condition}
 use Rattle.vl_pre.specs.Bytes.{Text, Placed, bytes, begins, at_line_end, is_allowed, name_at}
-use Rattle.vl_pre.specs.Pieces.{Part, Fault, fault, bad_byte, before, go_on, and_then, stops_line, from_stop, behind_close, closed, behind_block, string_length, escaped_length, as_it_stands, kept, blank_before, piece, first, in_line, line_piece, rest_of_line}
-use Rattle.vl_pre.specs.Directives.{Place, After, went, is_read, at_gap, behind_one, behind_gap, ticked, macro_name, name_of, whole_by, line_of, define_by, branch_by, branch_step, close_step, directive_step, is_conditional}
+use Rattle.vl_pre.specs.Pieces.{Head, line_comment, block_comment, a_string, escaped_name, a_backtick, any_other, InLine, continued, inside, Part, Fault, fault, bad_byte, before, go_on, and_then, stops_line, from_stop, behind_close, closed, behind_block, string_length, escaped_length, as_it_stands, kept, blank_before, piece, first, in_line, line_piece, rest_of_line}
+use Rattle.vl_pre.specs.Directives.{Directive, define, undef, ifdef, ifndef, elsif, otherwise, endif, passed_over, include, Ticked, no_name, a_directive, a_macro, Condition, Place, After, went, is_read, at_gap, behind_one, behind_gap, ticked, macro_name, name_of, whole_by, line_of, define_by, branch_by, branch_step, close_step, directive_step, is_conditional}
 use Rattle.vl_pre.specs.CleanText.{reading_from, body_tick, body_piece, body_reading, nothing, tick_step, read_step, skipped_directive, skipped_tick, skipped_step, step}
 use Rattle.vl_pre.specs.Reading.{HasFault, PartHasFault, Kept, Wrote, ended, next_in_line, step_at, body_piece_at}
 use Rattle.vl_pre.proofs.CursorLaws.{at_close, close_here, close_next}
@@ -71,24 +62,24 @@ blank_length : (c : Placed) (ts : Text) (r : Result Text Fault) → behind_block
 blank_length c ts (Ok us) e h = block_length c ts us e
 blank_length c ts (Err f) e h = absurd cc
 
-pub piece_length : (k : Bool) (f : First) (c : Placed) (ts : Text) → (piece k f c ts).fault ≡ None → length (piece k f c ts).rest ≤ length ts
-piece_length k LineComment c ts h = stop_length k ts
-piece_length k BlockComment c ts h = blank_length c ts (behind_block (c ∷ ts)) refl h
-piece_length k Quote c ts h = kept_shorter (string_length k false (bytes ts)) c ts h
-piece_length k Backslash c ts h = kept_shorter (escaped_length k (bytes ts)) c ts h
-piece_length k Tick c ts h = kept_shorter 0 c ts h
-piece_length k Plain c ts h = kept_shorter 0 c ts h
+pub piece_length : (k : Bool) (f : Head) (c : Placed) (ts : Text) → (piece k f c ts).fault ≡ None → length (piece k f c ts).rest ≤ length ts
+piece_length k line_comment c ts h = stop_length k ts
+piece_length k block_comment c ts h = blank_length c ts (behind_block (c ∷ ts)) refl h
+piece_length k a_string c ts h = kept_shorter (string_length k false (bytes ts)) c ts h
+piece_length k escaped_name c ts h = kept_shorter (escaped_length k (bytes ts)) c ts h
+piece_length k a_backtick c ts h = kept_shorter 0 c ts h
+piece_length k any_other c ts h = kept_shorter 0 c ts h
 
 -- ---- lines
 
 in_line_length : (i : InLine) (k : Bool) (c : Placed) (ts : Text) → (line_piece i k c ts).fault ≡ None → length (line_piece i k c ts).rest ≤ length ts
-in_line_length Continued k c ts h = let d = length-drop (if begins (10 ∷ []) (bytes ts) then 1 else 2) ts in omega (arith, d)
-in_line_length (Inside LineComment) k c ts h = stop_length k ts
-in_line_length (Inside BlockComment) k c ts h = piece_length k BlockComment c ts h
-in_line_length (Inside Quote) k c ts h = piece_length k Quote c ts h
-in_line_length (Inside Backslash) k c ts h = piece_length k Backslash c ts h
-in_line_length (Inside Tick) k c ts h = piece_length k Tick c ts h
-in_line_length (Inside Plain) k c ts h = piece_length k Plain c ts h
+in_line_length continued k c ts h = let d = length-drop (if begins (10 ∷ []) (bytes ts) then 1 else 2) ts in omega (arith, d)
+in_line_length (inside line_comment) k c ts h = stop_length k ts
+in_line_length (inside block_comment) k c ts h = piece_length k block_comment c ts h
+in_line_length (inside a_string) k c ts h = piece_length k a_string c ts h
+in_line_length (inside escaped_name) k c ts h = piece_length k escaped_name c ts h
+in_line_length (inside a_backtick) k c ts h = piece_length k a_backtick c ts h
+in_line_length (inside any_other) k c ts h = piece_length k any_other c ts h
 
 rest_by : (n : ℕ) (k : Bool) (c : Placed) (ts : Text) (b : Bool) → at_line_end (bytes (c ∷ ts)) ≡ b → (rest_of_line (suc n) k (c ∷ ts)).fault ≡ None
     → ((us : Text) → (rest_of_line n k us).fault ≡ None → length (rest_of_line n k us).rest ≤ length us) → length (rest_of_line (suc n) k (c ∷ ts)).rest ≤ suc (length ts)
@@ -144,9 +135,9 @@ gap_length (suc n) [] us e = let i = ap length (ok_is [] us e) in omega (arith, 
 gap_length (suc n) (c ∷ ts) us e = gap_by n c ts us (at_gap (bytes (c ∷ ts))) refl e (λ vs g. gap_length n vs us g)
 
 macro_length : (line : ℕ) (t : Ticked) (ts : Text) (n : List ℕ × Text) → macro_name line t ts ≡ Ok n → length n.1 ≤ length ts
-macro_length line NoName ts n e = absurd cc
-macro_length line (Named d) ts n e = absurd cc
-macro_length line Macro ts n e =
+macro_length line no_name ts n e = absurd cc
+macro_length line (a_directive d) ts n e = absurd cc
+macro_length line a_macro ts n e =
     let i = ap (λ (x : List ℕ × Text). length x.1) (ok_is (name_at ts, drop (length (name_at ts)) ts) n e) in let d = length-drop (length (name_at ts)) ts in omega (arith, i, d)
 
 name_length : (line : ℕ) (ts : Text) (n : List ℕ × Text) → name_of line ts ≡ Ok n → length n.1 ≤ length ts
@@ -173,7 +164,7 @@ branch_by_rest false line place c cs holds last rest a e = went_rest _ rest a e
 
 branch_rest : (line : ℕ) (place : Place) (cs : List Condition) (holds last : Bool) (rest : Text) (a : After) → branch_step line place cs holds last rest ≡ Ok a → a.rest ≡ rest
 branch_rest line place [] holds last rest a e = absurd cc
-branch_rest line place (c ∷ cs) holds last rest a e = branch_by_rest c.last line place c cs holds last rest a e
+branch_rest line place (c ∷ cs) holds last rest a e = branch_by_rest c.had_else line place c cs holds last rest a e
 
 close_rest : (line : ℕ) (place : Place) (cs : List Condition) (rest : Text) (a : After) → close_step line place cs rest ≡ Ok a → a.rest ≡ rest
 close_rest line place [] rest a e = absurd cc
@@ -191,18 +182,18 @@ same_length : (a : After) (ts : Text) → a.rest ≡ ts → length a.rest ≤ le
 same_length a ts e = let i = ap length e in omega (arith, i)
 
 pub directive_length : (d : Directive) (line : ℕ) (place : Place) (ts : Text) (a : After) → directive_step d line place ts ≡ Ok a → length a.rest ≤ length ts
-directive_length dir.Define line place ts a e = named_length line ts _ a e (λ n h. define_length _ line place n.0 n.1 a h)
-directive_length dir.Undef line place ts a e = named_length line ts _ a e (λ n h. same_length a n.1 (went_rest _ n.1 a h))
-directive_length dir.Ifdef line place ts a e = named_length line ts _ a e (λ n h. same_length a n.1 (went_rest _ n.1 a h))
-directive_length dir.Ifndef line place ts a e = named_length line ts _ a e (λ n h. same_length a n.1 (went_rest _ n.1 a h))
-directive_length dir.Elsif line place ts a e = named_length line ts _ a e (λ n h. same_length a n.1 (branch_rest line place place.conditions _ false n.1 a h))
-directive_length dir.Else line place ts a e = same_length a ts (branch_rest line place place.conditions true true ts a e)
-directive_length dir.Endif line place ts a e = same_length a ts (close_rest line place place.conditions ts a e)
-directive_length dir.Passed line place ts a e =
+directive_length define line place ts a e = named_length line ts _ a e (λ n h. define_length _ line place n.0 n.1 a h)
+directive_length undef line place ts a e = named_length line ts _ a e (λ n h. same_length a n.1 (went_rest _ n.1 a h))
+directive_length ifdef line place ts a e = named_length line ts _ a e (λ n h. same_length a n.1 (went_rest _ n.1 a h))
+directive_length ifndef line place ts a e = named_length line ts _ a e (λ n h. same_length a n.1 (went_rest _ n.1 a h))
+directive_length elsif line place ts a e = named_length line ts _ a e (λ n h. same_length a n.1 (branch_rest line place place.conditions _ false n.1 a h))
+directive_length otherwise line place ts a e = same_length a ts (branch_rest line place place.conditions true true ts a e)
+directive_length endif line place ts a e = same_length a ts (close_rest line place place.conditions ts a e)
+directive_length passed_over line place ts a e =
     let t = then_ok (line_of false ts) (λ (passed : List ℕ × Text). went place passed.1) a e in
     let i = ap length (went_rest place t.0.1 a t.2) in
     let j = line_length false ts t.0 t.1 in omega (arith, i, j)
-directive_length dir.Include line place ts a e = absurd cc
+directive_length include line place ts a e = absurd cc
 
 -- ---- steps
 
@@ -215,37 +206,37 @@ ticked_length d line place ts a e =
     let i = directive_length d line place (drop (length (name_at ts)) ts) a e in let j = length-drop (length (name_at ts)) ts in omega (arith, i, j)
 
 tick_length : (t : Ticked) (line : ℕ) (place : Place) (ts : Text) → (tick_step t line place ts).part.fault ≡ None → length (tick_step t line place ts).part.rest ≤ length ts
-tick_length NoName line place ts h = absurd cc
-tick_length (Named d) line place ts h = nothing_length place ts (directive_step d line place (drop (length (name_at ts)) ts)) (ticked_length d line place ts) h
-tick_length Macro line place ts h = let d = length-drop (length (name_at ts)) ts in omega (arith, d)
+tick_length no_name line place ts h = absurd cc
+tick_length (a_directive d) line place ts h = nothing_length place ts (directive_step d line place (drop (length (name_at ts)) ts)) (ticked_length d line place ts) h
+tick_length a_macro line place ts h = let d = length-drop (length (name_at ts)) ts in omega (arith, d)
 
-read_length : (f : First) (place : Place) (c : Placed) (ts : Text) → (read_step f place c ts).part.fault ≡ None → length (read_step f place c ts).part.rest ≤ length ts
-read_length Tick place c ts h = tick_length (ticked (name_at ts)) c.line place ts h
-read_length LineComment place c ts h = piece_length false LineComment c ts h
-read_length BlockComment place c ts h = piece_length false BlockComment c ts h
-read_length Quote place c ts h = piece_length false Quote c ts h
-read_length Backslash place c ts h = piece_length false Backslash c ts h
-read_length Plain place c ts h = piece_length false Plain c ts h
+read_length : (f : Head) (place : Place) (c : Placed) (ts : Text) → (read_step f place c ts).part.fault ≡ None → length (read_step f place c ts).part.rest ≤ length ts
+read_length a_backtick place c ts h = tick_length (ticked (name_at ts)) c.line place ts h
+read_length line_comment place c ts h = piece_length false line_comment c ts h
+read_length block_comment place c ts h = piece_length false block_comment c ts h
+read_length a_string place c ts h = piece_length false a_string c ts h
+read_length escaped_name place c ts h = piece_length false escaped_name c ts h
+read_length any_other place c ts h = piece_length false any_other c ts h
 
 skipped_by : (b : Bool) (d : Directive) (line : ℕ) (place : Place) (ts : Text) (a : After) → skipped_directive b d line place ts ≡ Ok a → length a.rest ≤ length ts
 skipped_by true d line place ts a e = ticked_length d line place ts a e
 skipped_by false d line place ts a e = same_length a ts (went_rest place ts a e)
 
 skipped_tick_length : (t : Ticked) (line : ℕ) (place : Place) (ts : Text) (a : After) → skipped_tick t line place ts ≡ Ok a → length a.rest ≤ length ts
-skipped_tick_length (Named d) line place ts a e = skipped_by (is_conditional d) d line place ts a e
-skipped_tick_length NoName line place ts a e = same_length a ts (went_rest place ts a e)
-skipped_tick_length Macro line place ts a e = same_length a ts (went_rest place ts a e)
+skipped_tick_length (a_directive d) line place ts a e = skipped_by (is_conditional d) d line place ts a e
+skipped_tick_length no_name line place ts a e = same_length a ts (went_rest place ts a e)
+skipped_tick_length a_macro line place ts a e = same_length a ts (went_rest place ts a e)
 
-skipped_length : (f : First) (place : Place) (c : Placed) (ts : Text) (a : After) → skipped_step f place c ts ≡ Ok a → length a.rest ≤ length ts
-skipped_length LineComment place c ts a e = let i = ap length (went_rest place (from_stop false ts) a e) in let j = stop_length false ts in omega (arith, i, j)
-skipped_length BlockComment place c ts a e =
+skipped_length : (f : Head) (place : Place) (c : Placed) (ts : Text) (a : After) → skipped_step f place c ts ≡ Ok a → length a.rest ≤ length ts
+skipped_length line_comment place c ts a e = let i = ap length (went_rest place (from_stop false ts) a e) in let j = stop_length false ts in omega (arith, i, j)
+skipped_length block_comment place c ts a e =
     let t = then_ok (behind_block (c ∷ ts)) (went place) a e in let i = ap length (went_rest place t.0 a t.2) in let j = block_length c ts t.0 t.1 in omega (arith, i, j)
-skipped_length Quote place c ts a e =
+skipped_length a_string place c ts a e =
     let n = string_length false false (bytes ts) in
     let i = ap length (went_rest place (drop n ts) a e) in let j = length-drop n ts in omega (arith, i, j)
-skipped_length Tick place c ts a e = skipped_tick_length (ticked (name_at ts)) c.line place ts a e
-skipped_length Backslash place c ts a e = same_length a ts (went_rest place ts a e)
-skipped_length Plain place c ts a e = same_length a ts (went_rest place ts a e)
+skipped_length a_backtick place c ts a e = skipped_tick_length (ticked (name_at ts)) c.line place ts a e
+skipped_length escaped_name place c ts a e = same_length a ts (went_rest place ts a e)
+skipped_length any_other place c ts a e = same_length a ts (went_rest place ts a e)
 
 pub step_length : (b : Bool) (place : Place) (c : Placed) (ts : Text) → (step b place c ts).part.fault ≡ None → length (step b place c ts).part.rest ≤ length ts
 step_length true place c ts h = read_length (first (bytes (c ∷ ts))) place c ts h
@@ -272,17 +263,17 @@ reads_more old now new rest p place next ts r some w e =
 -- ---- bodies
 
 body_tick_length : (expand : List ℕ → Part) (line : ℕ) (t : Ticked) (ts : Text) → (body_tick expand line t ts).fault ≡ None → length (body_tick expand line t ts).rest ≤ length ts
-body_tick_length expand line NoName ts h = absurd cc
-body_tick_length expand line (Named d) ts h = absurd cc
-body_tick_length expand line Macro ts h = let d = length-drop (length (name_at ts)) ts in omega (arith, d)
+body_tick_length expand line no_name ts h = absurd cc
+body_tick_length expand line (a_directive d) ts h = absurd cc
+body_tick_length expand line a_macro ts h = let d = length-drop (length (name_at ts)) ts in omega (arith, d)
 
-body_piece_length : (expand : List ℕ → Part) (line : ℕ) (f : First) (c : Placed) (ts : Text) → (body_piece expand line f c ts).fault ≡ None → length (body_piece expand line f c ts).rest ≤ length ts
-body_piece_length expand line Tick c ts h = body_tick_length expand line (ticked (name_at ts)) ts h
-body_piece_length expand line LineComment c ts h = piece_length false LineComment c ts h
-body_piece_length expand line BlockComment c ts h = piece_length false BlockComment c ts h
-body_piece_length expand line Quote c ts h = piece_length false Quote c ts h
-body_piece_length expand line Backslash c ts h = piece_length false Backslash c ts h
-body_piece_length expand line Plain c ts h = piece_length false Plain c ts h
+body_piece_length : (expand : List ℕ → Part) (line : ℕ) (f : Head) (c : Placed) (ts : Text) → (body_piece expand line f c ts).fault ≡ None → length (body_piece expand line f c ts).rest ≤ length ts
+body_piece_length expand line a_backtick c ts h = body_tick_length expand line (ticked (name_at ts)) ts h
+body_piece_length expand line line_comment c ts h = piece_length false line_comment c ts h
+body_piece_length expand line block_comment c ts h = piece_length false block_comment c ts h
+body_piece_length expand line a_string c ts h = piece_length false a_string c ts h
+body_piece_length expand line escaped_name c ts h = piece_length false escaped_name c ts h
+body_piece_length expand line any_other c ts h = piece_length false any_other c ts h
 
 pub body_at_length : (expand : List ℕ → Part) (line : ℕ) (ts : Text) → 0 < length ts → (body_piece_at expand line ts).fault ≡ None → length (body_piece_at expand line ts).rest < length ts
 body_at_length expand line [] some h = absurd (omega (arith, some))

@@ -1,25 +1,19 @@
 -- Clean text: what a text says once comments, directives and macros are replaced (IEEE 1364-2005, 3.3 and 19).
 use Rattle.std.specs.Prelude.{ℕ, zero, suc, Bool, true, false, List, [], ◌∷◌, drop, length, Option, Some, None, Result, Ok, Err}
-use Rattle.vl_pre.specs.declared.pieces.First.{First}
-use Rattle.vl_pre.specs.declared.pieces.First.TheVariants.{LineComment, BlockComment, Quote, Tick}
-use Rattle.vl_pre.specs.declared.names.Directive.{Directive}
-use Rattle.vl_pre.specs.declared.names.Ticked.{Ticked}
-use Rattle.vl_pre.specs.declared.names.Ticked.TheVariants.{NoName, Named, Macro}
-use Rattle.vl_pre.specs.declared.conditions.Condition.{Condition}
 use Rattle.vl_pre.specs.Bytes.{Placed, Text, placed, all_at, bytes, name_at, most_clean}
-use Rattle.vl_pre.specs.Pieces.{bad_directive, unbalanced, unknown_macro, macro_depth, too_long, Fault, fault, Part, gives, stops, fails, go_on, and_then, first, from_stop, behind_block, kept_length, piece}
-use Rattle.vl_pre.specs.Directives.{is_conditional, ticked, Macros, no_macros, Place, is_read, After, went, directive_step}
+use Rattle.vl_pre.specs.Pieces.{Head, line_comment, block_comment, a_string, a_backtick, bad_directive, unbalanced, unknown_macro, macro_depth, too_long, Fault, fault, Part, gives, stops, fails, go_on, and_then, first, from_stop, behind_block, kept_length, piece}
+use Rattle.vl_pre.specs.Directives.{Directive, Ticked, no_name, a_directive, a_macro, Condition, is_conditional, ticked, Macros, no_macros, Place, is_read, After, went, directive_step}
 
 -- ---- macros
 
 -- a backtick with this name in a body: the use of a macro, which gives what `expand` says
 abbrev pub body_tick : (List ℕ → Part) → ℕ → Ticked → Text → Part
-body_tick expand line Macro ts = record (expand (name_at ts)) { rest = drop (length (name_at ts)) ts }
+body_tick expand line a_macro ts = record (expand (name_at ts)) { rest = drop (length (name_at ts)) ts }
 body_tick expand line _ ts = fails bad_directive line
 
 -- the piece at the head of a body
-abbrev pub body_piece : (List ℕ → Part) → ℕ → First → Placed → Text → Part
-body_piece expand line Tick c ts = body_tick expand line (ticked (name_at ts)) ts
+abbrev pub body_piece : (List ℕ → Part) → ℕ → Head → Placed → Text → Part
+body_piece expand line a_backtick c ts = body_tick expand line (ticked (name_at ts)) ts
 body_piece expand line f c ts = piece false f c ts
 
 -- what a body gives on this line, in at most n pieces: its own bytes, and what the macros that it uses give
@@ -56,13 +50,13 @@ nothing place (Err f) = record { part = stops f; place = place }
 
 -- a backtick with this name in text that is read
 abbrev pub tick_step : Ticked → ℕ → Place → Text → Step
-tick_step NoName line place ts = record { part = fails bad_directive line; place = place }
-tick_step (Named d) line place ts = nothing place (directive_step d line place (drop (length (name_at ts)) ts))
-tick_step Macro line place ts = record { part = record (use_of most_depth place.macros line (name_at ts)) { rest = drop (length (name_at ts)) ts }; place = place }
+tick_step no_name line place ts = record { part = fails bad_directive line; place = place }
+tick_step (a_directive d) line place ts = nothing place (directive_step d line place (drop (length (name_at ts)) ts))
+tick_step a_macro line place ts = record { part = record (use_of most_depth place.macros line (name_at ts)) { rest = drop (length (name_at ts)) ts }; place = place }
 
 -- what stands at the head of a text that is read
-abbrev pub read_step : First → Place → Placed → Text → Step
-read_step Tick place c ts = tick_step (ticked (name_at ts)) c.line place ts
+abbrev pub read_step : Head → Place → Placed → Text → Step
+read_step a_backtick place c ts = tick_step (ticked (name_at ts)) c.line place ts
 read_step f place c ts = record { part = piece false f c ts; place = place }
 
 -- a directive in skipped text, and whether it is a conditional one
@@ -72,16 +66,16 @@ skipped_directive false d line place ts = went place ts
 
 -- a backtick with this name in skipped text
 abbrev pub skipped_tick : Ticked → ℕ → Place → Text → Result After Fault
-skipped_tick (Named d) line place ts = skipped_directive (is_conditional d) d line place ts
+skipped_tick (a_directive d) line place ts = skipped_directive (is_conditional d) d line place ts
 skipped_tick _ line place ts = went place ts
 
 -- what stands at the head of skipped text: comments, strings and the conditional directives are recognised,
 -- and nothing else (19.4)
-abbrev pub skipped_step : First → Place → Placed → Text → Result After Fault
-skipped_step LineComment place c ts = went place (from_stop false ts)
-skipped_step BlockComment place c ts = and_then (behind_block (c ∷ ts)) (went place)
-skipped_step Quote place c ts = went place (drop (kept_length false Quote (bytes (c ∷ ts))) (c ∷ ts))
-skipped_step Tick place c ts = skipped_tick (ticked (name_at ts)) c.line place ts
+abbrev pub skipped_step : Head → Place → Placed → Text → Result After Fault
+skipped_step line_comment place c ts = went place (from_stop false ts)
+skipped_step block_comment place c ts = and_then (behind_block (c ∷ ts)) (went place)
+skipped_step a_string place c ts = went place (drop (kept_length false a_string (bytes (c ∷ ts))) (c ∷ ts))
+skipped_step a_backtick place c ts = skipped_tick (ticked (name_at ts)) c.line place ts
 skipped_step _ place c ts = went place ts
 
 -- what stands at the head of a text that is read, or of one that is skipped

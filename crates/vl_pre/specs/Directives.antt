@@ -1,17 +1,28 @@
 -- Directives: definitions, conditions, and what is passed over (IEEE 1364-2005, 19).
 use Rattle.std.specs.Prelude.{ℕ, zero, suc, Bool, true, false, not, ◌&&◌, ◌||◌, if◌then◌else◌, List, [], ◌∷◌, drop, length, reverse, Option, Some, None, Result, Ok, Err, is_some, codes, bytes_eq}
 use Rattle.std.specs.List.{prefix_len}
-use Rattle.vl_pre.specs.declared.names.Directive.{Directive}
-use Rattle.vl_pre.specs.declared.names.Directive.TheVariants.{Define, Undef, Ifdef, Ifndef, Elsif, Else, Endif, Passed, Include}
-use Rattle.vl_pre.specs.declared.names.Ticked.{Ticked}
-use Rattle.vl_pre.specs.declared.names.Ticked.TheVariants.{NoName, Named, Macro}
-use Rattle.vl_pre.specs.declared.conditions.Branch.{Branch}
-use Rattle.vl_pre.specs.declared.conditions.Branch.TheVariants.{Waiting, Reading, Over}
-use Rattle.vl_pre.specs.declared.conditions.Condition.{Condition}
 use Rattle.vl_pre.specs.Bytes.{Text, bytes, begins, at_line_end, is_white, name_at}
 use Rattle.vl_pre.specs.Pieces.{bad_directive, unbalanced, Fault, fault, Part, and_then, behind_block, rest_of_line}
 
 -- ---- names behind backticks
+
+-- the directives that are known, those five that are passed over as one
+pub data Directive : Type 0 where
+  define : Directive
+  undef : Directive
+  ifdef : Directive
+  ifndef : Directive
+  elsif : Directive
+  otherwise : Directive
+  endif : Directive
+  passed_over : Directive
+  include : Directive
+
+-- what a backtick is by the name behind it: one without a name, a directive, or the use of a macro
+pub data Ticked : Type 0 where
+  no_name : Ticked
+  a_directive : Directive → Ticked
+  a_macro : Ticked
 
 -- what a table has under a word
 abbrev pub entry : {X : Type 0} → List (List ℕ × X) → List ℕ → Option X
@@ -21,28 +32,28 @@ entry (e ∷ es) word = if bytes_eq e.0 word then Some e.1 else entry es word
 -- the directives by their names; a name that isn't here is a macro's
 abbrev pub directives : List (List ℕ × Directive)
 directives =
-    (codes "define", Define) ∷ (codes "undef", Undef) ∷
-    (codes "ifdef", Ifdef) ∷ (codes "ifndef", Ifndef) ∷ (codes "elsif", Elsif) ∷ (codes "else", Else) ∷ (codes "endif", Endif) ∷
-    (codes "timescale", Passed) ∷ (codes "default_nettype", Passed) ∷ (codes "resetall", Passed) ∷ (codes "celldefine", Passed) ∷ (codes "endcelldefine", Passed) ∷
-    (codes "include", Include) ∷ []
+    (codes "define", define) ∷ (codes "undef", undef) ∷
+    (codes "ifdef", ifdef) ∷ (codes "ifndef", ifndef) ∷ (codes "elsif", elsif) ∷ (codes "else", otherwise) ∷ (codes "endif", endif) ∷
+    (codes "timescale", passed_over) ∷ (codes "default_nettype", passed_over) ∷ (codes "resetall", passed_over) ∷ (codes "celldefine", passed_over) ∷ (codes "endcelldefine", passed_over) ∷
+    (codes "include", include) ∷ []
 
 -- the five that are recognised in skipped text too (19.4)
 abbrev pub is_conditional : Directive → Bool
-is_conditional Ifdef = true
-is_conditional Ifndef = true
-is_conditional Elsif = true
-is_conditional Else = true
-is_conditional Endif = true
+is_conditional ifdef = true
+is_conditional ifndef = true
+is_conditional elsif = true
+is_conditional otherwise = true
+is_conditional endif = true
 is_conditional _ = false
 
 -- a name in the table is a directive's
 abbrev pub named : Option Directive → Ticked
-named None = Macro
-named (Some d) = Named d
+named None = a_macro
+named (Some d) = a_directive d
 
 -- what the name behind a backtick makes it
 abbrev pub ticked : List ℕ → Ticked
-ticked [] = NoName
+ticked [] = no_name
 ticked (b ∷ bs) = named (entry directives (b ∷ bs))
 
 -- ---- what is defined, and which conditions are open
@@ -63,6 +74,14 @@ defined name body macros x = if bytes_eq name x then Some body else macros x
 abbrev pub undefined : List ℕ → Macros → Macros
 undefined name macros x = if bytes_eq name x then None else macros x
 
+-- an open condition: the line of its `ifdef` or `ifndef`; whether none of its later branches is read, since one
+-- was taken or the text round it is skipped; whether its present branch is read; whether its `else` has come
+pub record Condition : Type 0 where
+  pub line : ℕ
+  pub settled : Bool
+  pub reading : Bool
+  pub had_else : Bool
+
 -- the macros, and the open conditions from the innermost
 pub record Place : Type 0 where
   pub macros : Macros
@@ -72,27 +91,18 @@ pub record Place : Type 0 where
 abbrev pub with_macros : Macros → Place → Place
 with_macros macros place = record place { macros = macros }
 
--- this branch is read
-abbrev pub is_reading : Branch → Bool
-is_reading Reading = true
-is_reading _ = false
-
--- text is read, and not skipped: a condition in skipped text is over, so the innermost tells
+-- text is read, and not skipped: a condition in skipped text reads no branch, so the innermost tells
 abbrev pub is_read : List Condition → Bool
 is_read [] = true
-is_read (c ∷ cs) = is_reading c.branch
+is_read (c ∷ cs) = c.reading
 
--- the first branch of a condition: whether text is read there, and whether it holds (19.4)
-abbrev pub first_branch : Bool → Bool → Branch
-first_branch false holds = Over
-first_branch true true = Reading
-first_branch true false = Waiting
+-- a condition that opens on this line, by whether the text round it is read and whether it holds (19.4)
+abbrev pub first_branch : Bool → ℕ → Bool → Condition
+first_branch around line holds = record { line = line; settled = not around || holds; reading = around && holds; had_else = false }
 
--- the next branch, and whether it holds (19.4)
-abbrev pub next_branch : Branch → Bool → Branch
-next_branch Waiting true = Reading
-next_branch Waiting false = Waiting
-next_branch _ holds = Over
+-- a condition in its next branch, by whether that one holds and whether it is the one of `else` (19.4)
+abbrev pub next_branch : Bool → Bool → Condition → Condition
+next_branch holds is_else c = record c { settled = c.settled || holds; reading = not c.settled && holds; had_else = is_else }
 
 -- ---- the NAME of a directive
 
@@ -123,7 +133,7 @@ behind_gap (suc n) (c ∷ ts) = gap_from (at_gap (bytes (c ∷ ts))) (c ∷ ts) 
 
 -- a name that is a macro's, and the text behind it; any other is a fault of the directive on this line
 abbrev pub macro_name : ℕ → Ticked → Text → Result (List ℕ × Text) Fault
-macro_name line Macro ts = Ok (name_at ts, drop (length (name_at ts)) ts)
+macro_name line a_macro ts = Ok (name_at ts, drop (length (name_at ts)) ts)
 macro_name line _ ts = Err (fault bad_directive line)
 
 -- the NAME of the directive on this line, and the text behind it
@@ -170,7 +180,7 @@ holds false is_there = not is_there
 
 -- with a condition that opens on this line, and holds or not
 abbrev pub opened : ℕ → Bool → Place → Place
-opened line first_holds place = record place { conditions = record { line = line; branch = first_branch (is_read place.conditions) first_holds; last = false } ∷ place.conditions }
+opened line first_holds place = record place { conditions = first_branch (is_read place.conditions) line first_holds ∷ place.conditions }
 
 -- `ifdef` (true) or `ifndef` (false) opens a condition
 abbrev pub open_step : Bool → ℕ → Place → Text → Result After Fault
@@ -179,13 +189,13 @@ open_step wanted line place ts = and_then (name_of line ts) (λ n. went (opened 
 -- the innermost condition goes on with its next branch, unless its `else` was read: whether that branch holds,
 -- and whether it is the one of `else`
 abbrev pub branch_by : Bool → ℕ → Place → Condition → List Condition → Bool → Bool → Text → Result After Fault
-branch_by true line place c cs holds last rest = Err (fault unbalanced line)
-branch_by false line place c cs holds last rest = went (record place { conditions = record c { branch = next_branch c.branch holds; last = last } ∷ cs }) rest
+branch_by true line place c cs holds is_else rest = Err (fault unbalanced line)
+branch_by false line place c cs holds is_else rest = went (record place { conditions = next_branch holds is_else c ∷ cs }) rest
 
 -- the same, where a condition is open
 abbrev pub branch_step : ℕ → Place → List Condition → Bool → Bool → Text → Result After Fault
-branch_step line place [] holds last rest = Err (fault unbalanced line)
-branch_step line place (c ∷ cs) holds last rest = branch_by c.last line place c cs holds last rest
+branch_step line place [] holds is_else rest = Err (fault unbalanced line)
+branch_step line place (c ∷ cs) holds is_else rest = branch_by c.had_else line place c cs holds is_else rest
 
 -- the innermost condition ends
 abbrev pub close_step : ℕ → Place → List Condition → Text → Result After Fault
@@ -194,12 +204,12 @@ close_step line place (c ∷ cs) rest = went (record place { conditions = cs }) 
 
 -- what a directive on this line does, and how the text goes on behind it
 abbrev pub directive_step : Directive → ℕ → Place → Text → Result After Fault
-directive_step Define line place ts = and_then (name_of line ts) (λ n. define_by (begins (codes "(") (bytes n.1)) line place n.0 n.1)
-directive_step Undef line place ts = and_then (name_of line ts) (λ n. went (with_macros (undefined n.0 place.macros) place) n.1)
-directive_step Ifdef line place ts = open_step true line place ts
-directive_step Ifndef line place ts = open_step false line place ts
-directive_step Elsif line place ts = and_then (name_of line ts) (λ n. branch_step line place place.conditions (is_some (place.macros n.0)) false n.1)
-directive_step Else line place ts = branch_step line place place.conditions true true ts
-directive_step Endif line place ts = close_step line place place.conditions ts
-directive_step Passed line place ts = and_then (line_of false ts) (λ passed. went place passed.1)
-directive_step Include line place ts = Err (fault bad_directive line)
+directive_step define line place ts = and_then (name_of line ts) (λ n. define_by (begins (codes "(") (bytes n.1)) line place n.0 n.1)
+directive_step undef line place ts = and_then (name_of line ts) (λ n. went (with_macros (undefined n.0 place.macros) place) n.1)
+directive_step ifdef line place ts = open_step true line place ts
+directive_step ifndef line place ts = open_step false line place ts
+directive_step elsif line place ts = and_then (name_of line ts) (λ n. branch_step line place place.conditions (is_some (place.macros n.0)) false n.1)
+directive_step otherwise line place ts = branch_step line place place.conditions true true ts
+directive_step endif line place ts = close_step line place place.conditions ts
+directive_step passed_over line place ts = and_then (line_of false ts) (λ passed. went place passed.1)
+directive_step include line place ts = Err (fault bad_directive line)

@@ -5,4 +5,5 @@ pub mod Pieces
 pub mod Directives
 pub mod CleanText
 pub mod Laws
+pub mod Views
 pub mod Reading

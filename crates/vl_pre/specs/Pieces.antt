@@ -1,9 +1,5 @@
 -- Pieces of text: comments, strings, escaped names and single bytes (IEEE 1364-2005, 3.3, 3.6 and 3.7.1).
 use Rattle.std.specs.Prelude.{ℕ, zero, suc, ◌==◌, Bool, true, false, not, ◌&&◌, ◌||◌, if◌then◌else◌, List, [], ◌∷◌, ◌++◌, take, drop, Option, Some, None, Result, Ok, Err, codes}
-use Rattle.vl_pre.specs.declared.pieces.First.{First}
-use Rattle.vl_pre.specs.declared.pieces.First.TheVariants.{LineComment, BlockComment, Quote, Backslash, Tick, Plain}
-use Rattle.vl_pre.specs.declared.lines.InLine.{InLine}
-use Rattle.vl_pre.specs.declared.lines.InLine.TheVariants.{Continued, Inside}
 pub use Rattle.vl_pre.specs.Faults.{Kind, bad_directive, unbalanced, unknown_macro, macro_depth, too_long, bad_byte, open_comment, Fault, fault}
 use Rattle.vl_pre.specs.Bytes.{Placed, Text, at_line, bytes, begins, at_line_end, is_white, is_allowed}
 
@@ -63,14 +59,24 @@ from_stop continues (c ∷ ts) = if stops_line continues (bytes (c ∷ ts)) then
 
 -- ---- what stands at the head of a text
 
+-- what begins at a place: a comment to the line's end or from `/*` to `*/`, a string, an escaped name, a
+-- backtick, or any other byte
+pub data Head : Type 0 where
+  line_comment : Head
+  block_comment : Head
+  a_string : Head
+  escaped_name : Head
+  a_backtick : Head
+  any_other : Head
+
 -- what a piece begins with
-abbrev pub first : List ℕ → First
+abbrev pub first : List ℕ → Head
 first bs =
-    if begins (codes "//") bs then LineComment else
-    if begins (codes "/*") bs then BlockComment else
-    if begins (34 ∷ []) bs then Quote else
-    if begins (92 ∷ []) bs then Backslash else
-    if begins (96 ∷ []) bs then Tick else Plain
+    if begins (codes "//") bs then line_comment else
+    if begins (codes "/*") bs then block_comment else
+    if begins (34 ∷ []) bs then a_string else
+    if begins (92 ∷ []) bs then escaped_name else
+    if begins (96 ∷ []) bs then a_backtick else any_other
 
 -- the text behind the next `*/`
 abbrev pub behind_close : Text → Option Text
@@ -102,9 +108,9 @@ escaped_length continues (b ∷ bs) = if is_white b || stops_line continues (b �
 
 -- how many bytes the piece at the head has that is no comment; a backtick is a piece of its own here: what it
 -- does is said of directives
-abbrev pub kept_length : Bool → First → List ℕ → ℕ
-kept_length continues Quote bs = suc (string_length continues false (drop 1 bs))
-kept_length continues Backslash bs = suc (escaped_length continues (drop 1 bs))
+abbrev pub kept_length : Bool → Head → List ℕ → ℕ
+kept_length continues a_string bs = suc (string_length continues false (drop 1 bs))
+kept_length continues escaped_name bs = suc (escaped_length continues (drop 1 bs))
 kept_length continues _ bs = 1
 
 -- these bytes as they stand, up to the first that isn't allowed
@@ -126,16 +132,21 @@ blank_before line (Ok rest) = gives (blank line) rest
 blank_before line (Err f) = stops f
 
 -- the piece at the head of a text, by what it begins with: a comment is one blank on the line where it begins
-abbrev pub piece : Bool → First → Placed → Text → Part
-piece continues LineComment c ts = gives (blank c.line) (from_stop continues ts)
-piece continues BlockComment c ts = blank_before c.line (behind_block (c ∷ ts))
+abbrev pub piece : Bool → Head → Placed → Text → Part
+piece continues line_comment c ts = gives (blank c.line) (from_stop continues ts)
+piece continues block_comment c ts = blank_before c.line (behind_block (c ∷ ts))
 piece continues f c ts = kept (kept_length continues f (bytes (c ∷ ts))) (c ∷ ts)
 
 -- ---- the rest of a line
 
--- what stands next in a line: a backslash that continues it, or a piece
+-- what may stand next in a line: a backslash that continues it, or a piece that begins so
+pub data InLine : Type 0 where
+  continued : InLine
+  inside : Head → InLine
+
+-- what stands next in this line
 abbrev pub in_line : Bool → List ℕ → InLine
-in_line continues bs = if continues && at_continued bs then Continued else Inside (first bs)
+in_line continues bs = if continues && at_continued bs then continued else inside (first bs)
 
 -- the text behind the line's end at its head
 abbrev pub behind_line_end : Text → Text
@@ -143,9 +154,9 @@ behind_line_end ts = drop (if begins (10 ∷ []) (bytes ts) then 1 else 2) ts
 
 -- the piece at the head of a line: a backslash that continues it is one blank, and a `//` comment is no part of it
 abbrev pub line_piece : InLine → Bool → Placed → Text → Part
-line_piece Continued continues c ts = gives (blank c.line) (behind_line_end ts)
-line_piece (Inside LineComment) continues c ts = gives [] (from_stop continues ts)
-line_piece (Inside f) continues c ts = piece continues f c ts
+line_piece continued continues c ts = gives (blank c.line) (behind_line_end ts)
+line_piece (inside line_comment) continues c ts = gives [] (from_stop continues ts)
+line_piece (inside f) continues c ts = piece continues f c ts
 
 -- the rest of a line, whether it ends here, where `more` reads on behind the next piece
 abbrev pub line_from : Bool → Bool → Placed → Text → (Text → Part) → Part

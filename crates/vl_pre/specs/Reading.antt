@@ -5,16 +5,11 @@ use Rattle.std.specs.Cmp.Lexicographic.{pointwise}
 use Rattle.indexmap.specs.IndexMap.{IndexMap, get}
 use Rattle.vl_pre.specs.declared.fault.PreFault.{PreFault}
 pub use Rattle.vl_pre.specs.Faults.{told, HasFault}
-use Rattle.vl_pre.specs.declared.lines.InLine.{InLine}
-use Rattle.vl_pre.specs.declared.pieces.First.{First}
-use Rattle.vl_pre.specs.declared.pieces.First.TheVariants.{Tick}
-use Rattle.vl_pre.specs.declared.conditions.Condition.{Condition}
-use Rattle.vl_pre.specs.declared.names.Directive.{Directive}
-use Rattle.vl_pre.specs.declared.names.Entry.{Entry}
+pub use Rattle.vl_pre.specs.Views.{macros_of, place_of}
 use Rattle.vl_pre.specs.declared.place.Place as code
 use Rattle.vl_pre.specs.Bytes.{Text, bytes, name_at, at_line_end, most_clean}
-use Rattle.vl_pre.specs.Pieces.{Fault, Part, gives, piece, behind_close, first, behind_block, in_line, line_piece}
-use Rattle.vl_pre.specs.Directives.{Macros, Place, After, went, ticked}
+use Rattle.vl_pre.specs.Pieces.{Head, a_backtick, InLine, Fault, Part, gives, piece, behind_close, first, behind_block, in_line, line_piece}
+use Rattle.vl_pre.specs.Directives.{Condition, Macros, Place, After, went, ticked}
 use Rattle.vl_pre.specs.CleanText.{Step, step, read_step, skipped_step, body_piece, body_tick, use_of, answer, at_end}
 
 -- ---- writing
@@ -84,7 +79,7 @@ next_in_line continues [] = gives [] []
 next_in_line continues (c ∷ ts) = line_piece (in_line continues (bytes (c ∷ ts))) continues c ts
 
 -- the piece at the head of a text that isn't empty, which begins so
-abbrev pub piece_at : Bool → First → Text → Part
+abbrev pub piece_at : Bool → Head → Text → Part
 piece_at continues f [] = gives [] []
 piece_at continues f (c ∷ ts) = piece continues f c ts
 
@@ -109,18 +104,6 @@ Moves new r (Err f) = HasFault r (told f)
 abbrev pub Finds : Text → Result (List ℕ × Text) Fault → Result (Bor (List ℕ)) PreFault → Type 0
 Finds new r (Ok name) = r ≡ Ok (name.now, new)
 Finds new r (Err f) = HasFault r (told f)
-
--- a table of the code as that of the definition
-abbrev pub pairs : List Entry → List (List ℕ × Directive)
-pairs = map (λ e. (e.word.now, e.directive))
-
--- the body of each name in the table of the code
-abbrev pub macros_of : {S : Type 0} → IndexMap (List ℕ) (List ℕ) S → Macros
-macros_of m name = get (pointwise nat_eq) m name
-
--- what the code keeps of a place, as that of the definition
-abbrev pub place_of : code.Place → Place
-place_of p = record { macros = macros_of p.macros; conditions = reverse p.conditions.items }
 
 -- the place was changed so, and the text goes on there
 abbrev pub Goes : Text → code.Place → Result After Fault → Result (Unit {0}) PreFault → Type 0
@@ -165,7 +148,7 @@ step_at is_read place (c ∷ ts) = step is_read place c ts
 -- a backtick at the head of a text that is read
 abbrev pub tick_at : Place → Text → Step
 tick_at place [] = record { part = gives [] []; place = place }
-tick_at place (c ∷ ts) = read_step Tick place c ts
+tick_at place (c ∷ ts) = read_step a_backtick place c ts
 
 -- the step at the head of a text that is skipped
 abbrev pub skipped_at : Place → Text → Result After Fault
@@ -175,7 +158,7 @@ skipped_at place (c ∷ ts) = skipped_step (first (bytes (c ∷ ts))) place c ts
 -- a backtick at the head of a text that is skipped
 abbrev pub skipped_tick_at : Place → Text → Result After Fault
 skipped_tick_at place [] = went place []
-skipped_tick_at place (c ∷ ts) = skipped_step Tick place c ts
+skipped_tick_at place (c ∷ ts) = skipped_step a_backtick place c ts
 
 -- what the part of the step gives was written, and the text goes on behind it from the step's place
 abbrev pub Steps : Text → Text → Text → code.Place → Step → Result (Unit {0}) PreFault → Type 0

@@ -4,6 +4,7 @@ ghost use Rattle.std.specs.Prelude.{◌≡◌, ◌<◌, ◌≤◌, ◌∷◌, []
 ghost use Rattle.vl_pre.specs.Bytes as b;
 ghost use Rattle.vl_pre.specs.Pieces as p;
 ghost use Rattle.vl_pre.specs.Reading.{Writes, piece_at};
+ghost use Rattle.vl_pre.specs.Views.{head_of};
 
 use crate::cursor::{Cursor, skip_block, skip_line};
 use crate::fault::PreFault;
@@ -126,7 +127,7 @@ fn at(bytes: &[u8], k: usize) -> Option<u8>
 pub fn write_piece(out: &mut Clean, at: &mut Cursor, first: First) -> Result<(), PreFault>
     requires some { 0 < length at.old }
     requires room { length out.old ≤ b.most_clean }
-    ensures { Writes out.old out.new at.new (piece_at false first at.old) result }
+    ensures { Writes out.old out.new at.new (piece_at false (head_of first) at.old) result }
 {
     match first {
         First::LineComment => {

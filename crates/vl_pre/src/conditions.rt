@@ -1,7 +1,7 @@
 //! Conditions: which text is read.
 
-ghost use Rattle.std.specs.Prelude.{◌≡◌};
-ghost use Rattle.vl_pre.specs.Directives as d;
+ghost use Rattle.std.specs.Prelude.{◌≡◌, ◌&&◌, ◌||◌, not};
+ghost use Rattle.vl_pre.specs.Views as v;
 
 /// A condition's branch: none was read yet, this one is read, or no further one is read.
 #[derive(Clone, Copy, Debug)]
@@ -24,7 +24,7 @@ pub struct Condition {
 impl Branch {
     /// Whether the text of this branch is read.
     pub fn is_reading(self) -> bool
-        ensures { result ≡ d.is_reading self }
+        ensures { result ≡ v.is_reading self }
     {
         match self {
             Branch::Reading => true,
@@ -35,7 +35,8 @@ impl Branch {
 
 /// The first branch of a condition, by whether text is read there and whether it holds.
 pub fn first_branch(is_read: bool, holds: bool) -> Branch
-    ensures { result ≡ d.first_branch is_read holds }
+    ensures settled { v.is_settled result ≡ (not is_read || holds) }
+    ensures reading { v.is_reading result ≡ (is_read && holds) }
 {
     match (is_read, holds) {
         (false, _) => Branch::Over,
@@ -46,7 +47,8 @@ pub fn first_branch(is_read: bool, holds: bool) -> Branch
 
 /// The branch behind this one, by whether it holds.
 pub fn next_branch(branch: Branch, holds: bool) -> Branch
-    ensures { result ≡ d.next_branch branch holds }
+    ensures settled { v.is_settled result ≡ (v.is_settled branch || holds) }
+    ensures reading { v.is_reading result ≡ (not (v.is_settled branch) && holds) }
 {
     match (branch, holds) {
         (Branch::Waiting, true) => Branch::Reading,

@@ -3,7 +3,8 @@
 ghost use Rattle.std.specs.Prelude.{◌≡◌, ◌++◌, ◌∷◌, [], false, reverse, MatchOption};
 ghost use Rattle.vl_pre.specs.Pieces as p;
 ghost use Rattle.vl_pre.specs.Directives as d;
-ghost use Rattle.vl_pre.specs.Reading.{Copies, Goes, place_of};
+ghost use Rattle.vl_pre.specs.Reading.{Copies, Goes};
+ghost use Rattle.vl_pre.specs.Views.{directive_of, place_of};
 
 use crate::cursor::Cursor;
 use crate::fault::PreFault;
@@ -22,7 +23,7 @@ pub fn direct(
     at: &mut Cursor,
     place: &mut Place,
 ) -> Result<(), PreFault>
-    ensures { Goes at.new place.new (d.directive_step directive line (place_of place.old) at.old) result }
+    ensures { Goes at.new place.new (d.directive_step (directive_of directive) line (place_of place.old) at.old) result }
 {
     match directive {
         Directive::Define => define(alloc, line, at, place),
@@ -48,7 +49,7 @@ fn copied(alloc: Global, bytes: &[u8]) -> Result<Text, PreFault>
 }
 
 fn define(alloc: Global, line: u32, at: &mut Cursor, place: &mut Place) -> Result<(), PreFault>
-    ensures { Goes at.new place.new (d.directive_step Directive.Define line (place_of place.old) at.old) result }
+    ensures { Goes at.new place.new (d.directive_step d.define line (place_of place.old) at.old) result }
 {
     let name = name_of(at, line)?;
     if at.bytes().starts_with(b"(") {
@@ -61,7 +62,7 @@ fn define(alloc: Global, line: u32, at: &mut Cursor, place: &mut Place) -> Resul
 }
 
 fn undefine(alloc: Global, line: u32, at: &mut Cursor, place: &mut Place) -> Result<(), PreFault>
-    ensures { Goes at.new place.new (d.directive_step Directive.Undef line (place_of place.old) at.old) result }
+    ensures { Goes at.new place.new (d.directive_step d.undef line (place_of place.old) at.old) result }
 {
     let name = name_of(at, line)?;
     let name = copied(alloc, name)?;
@@ -93,7 +94,7 @@ fn holds(wanted: bool, is_there: bool) -> bool
 
 // Goes on to the branch of an `elsif`.
 fn turn(alloc: Global, line: u32, at: &mut Cursor, place: &mut Place) -> Result<(), PreFault>
-    ensures { Goes at.new place.new (d.directive_step Directive.Elsif line (place_of place.old) at.old) result }
+    ensures { Goes at.new place.new (d.directive_step d.elsif line (place_of place.old) at.old) result }
 {
     let name = name_of(at, line)?;
     let name = copied(alloc, name)?;

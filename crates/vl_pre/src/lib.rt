@@ -10,7 +10,7 @@
 
 ghost use Rattle.std.specs.Prelude.{◌≡◌, ◌-◌, ◌^◌, ◌<◌, length, Ok, IfOk, IfErr};
 ghost use Rattle.vl_pre.specs.CleanText.{clean_text};
-ghost use Rattle.vl_pre.specs.Laws.{PlainComesThrough, UseReadsAsBody};
+ghost use Rattle.vl_pre.specs.Laws.{PlainComesThrough, ReadInFirstToHold, UseReadsAsBody};
 ghost use Rattle.vl_pre.specs.Faults.{HasFault, told};
 
 mod clean;
@@ -55,4 +55,9 @@ pub fn plain_text_law()
 /// The use of a macro whose body is such a text reads as the body does, on the line of the use.
 pub fn macro_use_law()
     ensures { UseReadsAsBody }
+{}
+
+/// Text is read exactly where each open condition is in its first branch that holds.
+pub fn condition_law()
+    ensures { ReadInFirstToHold }
 {}

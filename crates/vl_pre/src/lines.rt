@@ -5,6 +5,7 @@ ghost use Rattle.vl_pre.specs.Bytes as b;
 ghost use Rattle.vl_pre.specs.Pieces as p;
 ghost use Rattle.vl_pre.specs.Reading as r;
 ghost use Rattle.vl_pre.specs.Reading.{Keeps, ReadsPart};
+ghost use Rattle.vl_pre.specs.Views as v;
 
 use crate::cursor::{Cursor, skip, skip_block, skip_line};
 use crate::fault::PreFault;
@@ -39,7 +40,7 @@ fn ended(bytes: &[u8]) -> bool
 }
 
 fn in_line(bytes: &[u8], continues: bool) -> InLine
-    ensures { result ≡ p.in_line continues bytes.now }
+    ensures { v.in_line_of result ≡ p.in_line continues bytes.now }
 {
     if continues && at_continued(bytes) {
         InLine::Continued
@@ -62,7 +63,7 @@ fn read_next(body: &mut Vec<u8>, at: &mut Cursor, continues: bool) -> Result<(),
 // Appends the blank of a backslash that continues the line.
 fn read_continued(body: &mut Vec<u8>, at: &mut Cursor, continues: bool) -> Result<(), PreFault>
     requires { 0 < length at.old }
-    ensures { Keeps body.old.items body.new.items at.new (r.piece_in_line InLine.Continued continues at.old) result }
+    ensures { Keeps body.old.items body.new.items at.new (r.piece_in_line p.continued continues at.old) result }
 {
     let Some((_, line)) = at.next() else {
         return Ok(());
@@ -87,7 +88,7 @@ fn read_piece(
     continues: bool,
 ) -> Result<(), PreFault>
     requires { 0 < length at.old }
-    ensures { Keeps body.old.items body.new.items at.new (r.piece_in_line (InLine.Inside first) continues at.old) result }
+    ensures { Keeps body.old.items body.new.items at.new (r.piece_in_line (p.inside (v.head_of first)) continues at.old) result }
 {
     match first {
         First::LineComment => {

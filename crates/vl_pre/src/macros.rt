@@ -3,7 +3,8 @@
 ghost use Rattle.std.specs.Prelude.{◌≤◌, ◌<◌, length};
 ghost use Rattle.vl_pre.specs.Bytes as b;
 ghost use Rattle.vl_pre.specs.CleanText as t;
-ghost use Rattle.vl_pre.specs.Reading.{Gives, IsNoted, KnowsBlanks, Notes, Writes, body_piece_at, body_use_at, macros_of};
+ghost use Rattle.vl_pre.specs.Reading.{Gives, IsNoted, KnowsBlanks, Notes, Writes, body_piece_at, body_use_at};
+ghost use Rattle.vl_pre.specs.Views.{macros_of};
 
 use crate::clean::{Clean, write_piece};
 use crate::cursor::{Cursor, name_at, skip};

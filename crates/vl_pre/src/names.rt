@@ -1,9 +1,10 @@
 //! Names behind backticks, and the NAME of a directive.
 
-ghost use Rattle.std.specs.Prelude.{◌≡◌, ◌<◌, length, codes};
+ghost use Rattle.std.specs.Prelude.{◌≡◌, ◌<◌, length, codes, option_map};
 ghost use Rattle.vl_pre.specs.Bytes as b;
 ghost use Rattle.vl_pre.specs.Directives as d;
-ghost use Rattle.vl_pre.specs.Reading.{pairs, Finds, Moves};
+ghost use Rattle.vl_pre.specs.Reading.{Finds, Moves};
+ghost use Rattle.vl_pre.specs.Views as v;
 
 use crate::cursor::{Cursor, name_at, skip, skip_block};
 use crate::fault::PreFault;
@@ -95,7 +96,7 @@ static DIRECTIVES: [Entry; 13] = [
 ];
 
 fn find(entries: &[Entry], name: &[u8]) -> Option<Directive>
-    ensures { result ≡ d.entry (pairs entries.now) name.now }
+    ensures { option_map v.directive_of result ≡ d.entry (v.pairs entries.now) name.now }
 {
     for entry in entries {
         if entry.word == name {
@@ -107,14 +108,14 @@ fn find(entries: &[Entry], name: &[u8]) -> Option<Directive>
 
 // The directive of this name.
 fn directive_of(name: &[u8]) -> Option<Directive>
-    ensures { result ≡ d.entry d.directives name.now }
+    ensures { option_map v.directive_of result ≡ d.entry d.directives name.now }
 {
     find(DIRECTIVES.as_slice(), name)
 }
 
 /// What the name behind a backtick makes it.
 pub fn behind_tick(name: &[u8]) -> Ticked
-    ensures { result ≡ d.ticked name.now }
+    ensures { v.ticked_of result ≡ d.ticked name.now }
 {
     match next(name) {
         None => Ticked::NoName,
@@ -123,7 +124,7 @@ pub fn behind_tick(name: &[u8]) -> Ticked
 }
 
 fn tick_by(found: Option<Directive>) -> Ticked
-    ensures { result ≡ d.named found }
+    ensures { v.ticked_of result ≡ d.named (option_map v.directive_of found) }
 {
     match found {
         Some(directive) => Ticked::Named(directive),
@@ -133,7 +134,7 @@ fn tick_by(found: Option<Directive>) -> Ticked
 
 /// Whether it is recognised in skipped text too.
 pub fn is_conditional(directive: Directive) -> bool
-    ensures { result ≡ d.is_conditional directive }
+    ensures { result ≡ d.is_conditional (v.directive_of directive) }
 {
     match directive {
         Directive::Ifdef

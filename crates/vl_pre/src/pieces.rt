@@ -5,6 +5,7 @@ ghost use Rattle.std.specs.List.{prefix_len};
 ghost use Rattle.vl_pre.specs.Bytes as b;
 ghost use Rattle.vl_pre.specs.Pieces as p;
 ghost use Rattle.vl_pre.specs.Directives as d;
+ghost use Rattle.vl_pre.specs.Views.{head_of};
 
 /// What a piece begins with.
 #[derive(Clone, Copy, Debug)]
@@ -119,7 +120,7 @@ pub fn stops_line(bytes: &[u8], continues: bool) -> bool
 
 /// What the piece at the head begins with.
 pub fn first_of(bytes: &[u8]) -> First
-    ensures { result ≡ p.first bytes.now }
+    ensures { head_of result ≡ p.first bytes.now }
 {
     if bytes.starts_with(b"//") {
         First::LineComment
@@ -198,7 +199,7 @@ fn escaped_length(bytes: &[u8], continues: bool) -> usize
 
 /// How many bytes the piece at the head has that is no comment.
 pub fn kept_length(bytes: &[u8], first: First, continues: bool) -> usize
-    ensures { result ≡ p.kept_length continues first bytes.now }
+    ensures { result ≡ p.kept_length continues (head_of first) bytes.now }
 {
     match first {
         First::Quote => string_length(tail(bytes), continues) + 1,

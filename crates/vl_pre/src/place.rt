@@ -4,7 +4,8 @@ ghost use Rattle.std.specs.Prelude.{◌≡◌, is_some};
 ghost use Rattle.vl_pre.specs.Bytes as b;
 ghost use Rattle.vl_pre.specs.Directives as d;
 ghost use Rattle.vl_pre.specs.CleanText as t;
-ghost use Rattle.vl_pre.specs.Reading.{Changes, Finishes, Goes, place_of};
+ghost use Rattle.vl_pre.specs.Reading.{Changes, Finishes, Goes};
+ghost use Rattle.vl_pre.specs.Views.{place_of};
 
 use crate::conditions::{Branch, Condition, first_branch, next_branch};
 use crate::fault::PreFault;

@@ -120,7 +120,7 @@ pub write_use-returns-in_default-clause-writes : goal.write_use-returns-in_defau
 write_use-returns-in_default-clause-writes t c =
     let expand = use_of c.args.depth (macros_of c.args.macros.now) c.args.line in
     ends_fails c.args.out.now _ (fault bad_directive c.args.line) c.requires.room
-    (use_missing expand c.args.line c.args.at.now c.skip.new.at c.name_at-name.result.now c.skip.ensures c.name_at-name.ensures (λ e. c.in_default.not-Macro (c.behind_tick.ensures ∙ e)))
+    (use_missing expand c.args.line c.args.at.now c.skip.new.at c.name_at-name.result.now c.behind_tick.result c.skip.ensures c.name_at-name.ensures c.behind_tick.ensures c.in_default.not-Macro)
 
 pub write_use-returns-in_err-expand-clause-writes : goal.write_use-returns-in_err-expand-clause-writes
 write_use-returns-in_err-expand-clause-writes t c =
@@ -129,5 +129,5 @@ write_use-returns-in_err-expand-clause-writes t c =
     let new = drop (length name) c.skip.new.at in
     let p = err_from_is_err_and c.from_residual.result c.from_residual.ensures.1 in
     rw (p.1, p.2) (ends_as c.args.out.now _ (record (expand name) { rest = new }) (told c.in_err-expand.field-0.0)
-    (use_found expand c.args.line c.args.at.now c.skip.new.at new name c.skip.ensures c.name_at-name.ensures (sym c.behind_tick.ensures ∙ c.in-Macro.is) refl)
+    (use_found expand c.args.line c.args.at.now c.skip.new.at new name c.behind_tick.result c.skip.ensures c.name_at-name.ensures c.behind_tick.ensures c.in-Macro.is refl)
     (ends_anywhere c.args.out.now new (expand name) (told c.in_err-expand.field-0.0) c.in_err-expand.ensures.gives))

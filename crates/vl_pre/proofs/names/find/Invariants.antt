@@ -1,6 +1,6 @@
 use Rattle.std.proofs.Common.{◌≡◌, drop}
 use Rattle.vl_pre.specs.Directives.{entry}
-use Rattle.vl_pre.specs.Reading.{pairs}
+use Rattle.vl_pre.specs.Views.{pairs}
 use Rattle.vl_pre.proofs.names.find.Given as goal
 
 abbrev pub invariant-loop-entry : goal.invariant-loop-entry
