@@ -7,8 +7,9 @@ use Rattle.indexmap.specs.IndexMap.{IndexMap, get}
 use Rattle.vl_pre.specs.Bytes.{Text, Placed, bytes, name_at, all_at, most_clean}
 use Rattle.vl_pre.specs.Pieces.{Head, line_comment, block_comment, a_string, escaped_name, a_backtick, any_other, Part, Fault, fault, unknown_macro, macro_depth, fails, before, go_on, go_by, first}
 use Rattle.vl_pre.specs.Directives.{Ticked, no_name, a_directive, a_macro, Macros, ticked}
-use Rattle.vl_pre.specs.CleanText.{body_tick, body_piece, body_reading, expanded, use_of}
-use Rattle.vl_pre.specs.Reading.{IsBlank, KnowsBlanks, Notes, Wrote, Gives, EndsWith}
+use Rattle.vl_pre.specs.CleanText.{body_tick, body_piece, body_reading, whole_body, expanded, use_of}
+use Rattle.vl_pre.specs.Reading.{IsBlank, is_from, KnowsBlanks, Notes, Wrote, Gives, EndsWith}
+use Rattle.std.proofs.lemmas.Bool.{leb-true}
 use Rattle.std.proofs.lemmas.Slice.Eq.{bytes_eq-Decides}
 use Rattle.vl_pre.specs.declared.fault.PreFault.{PreFault}
 use Rattle.vl_pre.proofs.WriteLaws.{goes}
@@ -46,9 +47,6 @@ body_steady e f line (suc n) (c ∷ ts) same h =
     ap (λ (q : Part). go_on q (body_reading f line n)) (piece_steady e f line (first (bytes (c ∷ ts))) c ts same both.0)
     ∙ goes p (body_reading f line n) both.0 ∙ ap (before p.given) (body_steady e f line n p.rest same both.1) ∙ sym (goes p (body_reading e line n) both.0)
 
-abbrev body_of : ℕ → Macros → ℕ → List ℕ → Part
-body_of depth m line body = body_reading (use_of depth m line) line (length body) (all_at line body)
-
 no_fault : (f : Fault) (p : Part) → p.fault ≡ Some f → p.fault ≡ None → ⊥
 no_fault f p e h = let x : Some f ≡ None = sym e ∙ h in cc
 
@@ -59,10 +57,10 @@ steady_zero m line (Some body) name e h = absurd (no_fault (fault macro_depth li
 steady_suc : (k : ℕ) (m : Macros) (line : ℕ) (o : Option (List ℕ)) (name : List ℕ) → ((x : List ℕ) → (use_of k m line x).fault ≡ None → use_of (suc k) m line x ≡ use_of k m line x) → m name ≡ o
     → (use_of (suc k) m line name).fault ≡ None → use_of (suc (suc k)) m line name ≡ use_of (suc k) m line name
 steady_suc k m line None name same e h =
-    absurd (no_fault (fault unknown_macro line) (use_of (suc k) m line name) (ap (λ x. (expanded line (body_of k m line) x).fault) e) h)
+    absurd (no_fault (fault unknown_macro line) (use_of (suc k) m line name) (ap (λ x. (expanded line (whole_body (use_of k m line) line) x).fault) e) h)
 steady_suc k m line (Some body) name same e h =
-    let h' : (body_of k m line body).fault ≡ None = ap (λ x. (expanded line (body_of k m line) x).fault) (sym e) ∙ h in
-    ap (expanded line (body_of (suc k) m line)) e ∙ body_steady (use_of k m line) (use_of (suc k) m line) line (length body) (all_at line body) same h' ∙ ap (expanded line (body_of k m line)) (sym e)
+    let h' : (whole_body (use_of k m line) line body).fault ≡ None = ap (λ x. (expanded line (whole_body (use_of k m line) line) x).fault) (sym e) ∙ h in
+    ap (expanded line (whole_body (use_of (suc k) m line) line)) e ∙ body_steady (use_of k m line) (use_of (suc k) m line) line (length body) (all_at line body) same h' ∙ ap (expanded line (whole_body (use_of k m line) line)) (sym e)
 
 -- a use without fault gives the same at the next depth
 steady : (depth : ℕ) (m : Macros) (line : ℕ) (name : List ℕ) → (use_of depth m line name).fault ≡ None → use_of (suc depth) m line name ≡ use_of depth m line name
@@ -101,6 +99,10 @@ wrote_blank old new rest p w e =
     record { none = nil_from_length p.given (omega (arith, all, sum, e)); sound = w.sound }
 
 -- ---- what is noted
+
+pub noted_from : (found : Option ℕ) (depth : ℕ) → is_from found depth ≡ true → (least : ℕ) × (found ≡ Some least) × (least ≤ depth)
+noted_from None depth e = absurd cc
+noted_from (Some least) depth e = (least, refl, leb-true least depth e)
 
 same_name : {S : Type 0} (m : Macros) (line : ℕ) (old : IndexMap (List ℕ) ℕ S) (name x : List ℕ) (depth least d : ℕ) (b : Bool) (found : Option ℕ) → pointwise nat_eq name x ≡ b → get (pointwise nat_eq) old x ≡ found
     → cond b (Some depth) found ≡ Some least → least ≤ d → IsBlank (use_of depth m line name) → (found ≡ Some least → IsBlank (use_of d m line x)) → IsBlank (use_of d m line x)

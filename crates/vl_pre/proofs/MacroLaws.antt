@@ -8,7 +8,7 @@ use Rattle.vl_pre.specs.declared.names.Ticked.TheVariants as v
 use Rattle.vl_pre.specs.Bytes.{Text, bytes, name_at, all_at}
 use Rattle.vl_pre.specs.Pieces.{Part, unknown_macro, macro_depth, bad_directive, gives, fails, go_on, first}
 use Rattle.vl_pre.specs.Directives.{Ticked, no_name, a_directive, a_macro, Macros, ticked}
-use Rattle.vl_pre.specs.CleanText.{use_of, expanded, body_reading, body_tick}
+use Rattle.vl_pre.specs.CleanText.{use_of, expanded, whole_body, body_reading, body_tick}
 use Rattle.vl_pre.specs.Views.{head_of, ticked_of}
 use Rattle.vl_pre.proofs.LineLaws.{macro_tick, no_macro_tick}
 use Rattle.vl_pre.specs.Reading.{piece_at, body_piece_at, body_use_at}
@@ -22,11 +22,11 @@ use_too_deep zero m line name body z e = rw e refl
 use_too_deep (suc depth) m line name body z e = absurd (omega (arith, z))
 
 pub use_body : (depth : ℕ) (m : Macros) (line : ℕ) (name body : List ℕ) → 0 < depth → m name ≡ Some body
-    → use_of depth m line name ≡ body_reading (use_of (depth - 1) m line) line (length body) (all_at line body)
+    → use_of depth m line name ≡ whole_body (use_of (depth - 1) m line) line body
 use_body zero m line name body some e = absurd (omega (arith, some))
 use_body (suc depth) m line name body some e =
     let less : suc depth - 1 ≡ depth = omega arith in
-    ap (expanded line (λ body. body_reading (use_of depth m line) line (length body) (all_at line body))) e ∙ ap (λ d. body_reading (use_of d m line) line (length body) (all_at line body)) (sym less)
+    ap (expanded line (whole_body (use_of depth m line) line)) e ∙ ap (λ d. whole_body (use_of d m line) line body) (sym less)
 
 -- ---- bodies
 

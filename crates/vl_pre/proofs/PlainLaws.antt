@@ -6,7 +6,7 @@ use Rattle.std.proofs.lemmas.List.{take-append-drop, length-drop, length-map}
 use Rattle.vl_pre.specs.Bytes.{Text, Placed, at_line, bytes, begins, placed, all_at, is_allowed, most_clean}
 use Rattle.vl_pre.specs.Pieces.{a_string, escaped_name, any_other, Part, gives, before, go_on, first, as_it_stands, kept, string_length, escaped_length}
 use Rattle.vl_pre.specs.Directives.{Place}
-use Rattle.vl_pre.specs.CleanText.{Step, step, body_piece, body_reading, expanded, use_of, reading_from, reading, start, answer, within}
+use Rattle.vl_pre.specs.CleanText.{Step, step, body_piece, body_reading, whole_body, expanded, use_of, reading_from, reading, start, answer, within}
 use Rattle.vl_pre.specs.Laws.{is_plain, PlainComesThrough, UseReadsAsBody}
 use Rattle.vl_pre.proofs.CursorLaws.{bytes-text_from}
 use Rattle.vl_pre.proofs.ReadingLaws.{length-placed}
@@ -118,5 +118,5 @@ use_reads_as_body depth line macros name body e h =
     let expand = use_of depth macros line in
     let plain : is_plain (bytes (all_at line body)) ≡ true = ap is_plain (bytes-text_from true line body) ∙ h in
     let counted = length-map body (at_line line) in
-    ap (expanded line (λ b. body_reading expand line (length b) (all_at line b))) e
+    ap (expanded line (whole_body expand line)) e
     ∙ plain_reads (body_reading expand line) (body_none expand line) (body_next expand line) (length body) (all_at line body) (omega (arith, counted)) plain

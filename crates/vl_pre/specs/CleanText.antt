@@ -22,6 +22,10 @@ body_reading expand line n [] = gives [] []
 body_reading expand line zero (c ∷ ts) = gives [] (c ∷ ts)
 body_reading expand line (suc n) (c ∷ ts) = go_on (body_piece expand line (first (bytes (c ∷ ts))) c ts) (body_reading expand line n)
 
+-- what the whole body gives on this line
+abbrev pub whole_body : (List ℕ → Part) → ℕ → List ℕ → Part
+whole_body expand line body = body_reading expand line (length body) (all_at line body)
+
 -- what a use on this line gives, by what its body gives, if it has one
 abbrev pub expanded : ℕ → (List ℕ → Part) → Option (List ℕ) → Part
 expanded line body_gives None = fails unknown_macro line
@@ -30,7 +34,7 @@ expanded line body_gives (Some body) = body_gives body
 -- what the use of a macro gives on this line, where so many expansions may stand in one another (19.3.1)
 abbrev pub use_of : ℕ → Macros → ℕ → List ℕ → Part
 use_of zero macros line name = expanded line (λ body. fails macro_depth line) (macros name)
-use_of (suc depth) macros line name = expanded line (λ body. body_reading (use_of depth macros line) line (length body) (all_at line body)) (macros name)
+use_of (suc depth) macros line name = expanded line (whole_body (use_of depth macros line) line) (macros name)
 
 -- an expansion inside this many others is a fault
 abbrev pub most_depth : ℕ
@@ -52,7 +56,8 @@ nothing place (Err f) = record { part = stops f; place = place }
 abbrev pub tick_step : Ticked → ℕ → Place → Text → Step
 tick_step no_name line place ts = record { part = fails bad_directive line; place = place }
 tick_step (a_directive d) line place ts = nothing place (directive_step d line place (drop (length (name_at ts)) ts))
-tick_step a_macro line place ts = record { part = record (use_of most_depth place.macros line (name_at ts)) { rest = drop (length (name_at ts)) ts }; place = place }
+tick_step a_macro line place ts =
+    record { part = record (use_of most_depth place.macros line (name_at ts)) { rest = drop (length (name_at ts)) ts }; place = place }
 
 -- what stands at the head of a text that is read
 abbrev pub read_step : Head → Place → Placed → Text → Step

@@ -34,7 +34,8 @@ abbrev pub directives : List (List ℕ × Directive)
 directives =
     (codes "define", define) ∷ (codes "undef", undef) ∷
     (codes "ifdef", ifdef) ∷ (codes "ifndef", ifndef) ∷ (codes "elsif", elsif) ∷ (codes "else", otherwise) ∷ (codes "endif", endif) ∷
-    (codes "timescale", passed_over) ∷ (codes "default_nettype", passed_over) ∷ (codes "resetall", passed_over) ∷ (codes "celldefine", passed_over) ∷ (codes "endcelldefine", passed_over) ∷
+    (codes "timescale", passed_over) ∷ (codes "default_nettype", passed_over) ∷ (codes "resetall", passed_over) ∷
+    (codes "celldefine", passed_over) ∷ (codes "endcelldefine", passed_over) ∷
     (codes "include", include) ∷ []
 
 -- the five that are recognised in skipped text too (19.4)
@@ -171,7 +172,8 @@ line_of continues ts = let p = rest_of_line (length ts) continues ts in whole_by
 -- `define` behind its NAME, and whether `(` stands there: the body is the rest of the line (19.3.1)
 abbrev pub define_by : Bool → ℕ → Place → List ℕ → Text → Result After Fault
 define_by true line place name ts = Err (fault bad_directive line)
-define_by false line place name ts = and_then (line_of true ts) (λ body. went (with_macros (defined name (trimmed body.0) place.macros) place) body.1)
+define_by false line place name ts =
+    and_then (line_of true ts) (λ body. went (with_macros (defined name (trimmed body.0) place.macros) place) body.1)
 
 -- whether the condition of `ifdef` (true) or `ifndef` (false) holds, by whether its name is defined (19.4)
 abbrev pub holds : Bool → Bool → Bool
@@ -208,7 +210,8 @@ directive_step define line place ts = and_then (name_of line ts) (λ n. define_b
 directive_step undef line place ts = and_then (name_of line ts) (λ n. went (with_macros (undefined n.0 place.macros) place) n.1)
 directive_step ifdef line place ts = open_step true line place ts
 directive_step ifndef line place ts = open_step false line place ts
-directive_step elsif line place ts = and_then (name_of line ts) (λ n. branch_step line place place.conditions (is_some (place.macros n.0)) false n.1)
+directive_step elsif line place ts =
+    and_then (name_of line ts) (λ n. branch_step line place place.conditions (is_some (place.macros n.0)) false n.1)
 directive_step otherwise line place ts = branch_step line place place.conditions true true ts
 directive_step endif line place ts = close_step line place place.conditions ts
 directive_step passed_over line place ts = and_then (line_of false ts) (λ passed. went place passed.1)

@@ -1,5 +1,5 @@
 -- What the readers promise each other, beside what the definition says. This project's own.
-use Rattle.std.specs.Prelude.{ℕ, ◌≡◌, ◌≤◌, Bool, true, false, List, [], ◌∷◌, ◌++◌, ◌&&◌, cond, drop, length, map, reverse, nat_eq, Option, Some, None, Result, Ok, Err}
+use Rattle.std.specs.Prelude.{ℕ, ◌≡◌, ◌≤◌, Bool, true, false, List, [], ◌∷◌, ◌++◌, ◌&&◌, cond, drop, length, map, reverse, nat_eq, nat_le, Option, Some, None, Result, Ok, Err}
 use denote.Ref.{Bor}
 use Rattle.std.specs.Cmp.Lexicographic.{pointwise}
 use Rattle.indexmap.specs.IndexMap.{IndexMap, get}
@@ -165,11 +165,6 @@ abbrev pub Steps : Text → Text → Text → code.Place → Step → Result (Un
 Steps old new rest place s (Ok u) = Wrote old new rest s.part × (place_of place ≡ s.place)
 Steps old new rest place s (Err f) = EndsWith old s.part (told f)
 
--- the clean text, or its first fault
-abbrev pub Preprocesses : Result Text Fault → Result Text PreFault → Type 0
-Preprocesses r (Ok clean) = r ≡ Ok clean
-Preprocesses r (Err f) = HasFault r (told f)
-
 -- ---- uses that give nothing
 
 -- the part gives nothing, and no fault
@@ -179,14 +174,20 @@ pub record IsBlank (p : Part) : Type 0 where
 
 -- each name that is noted gives nothing on this line from its depth on
 abbrev pub KnowsBlanks : {S : Type 0} → Macros → ℕ → IndexMap (List ℕ) ℕ S → Type 0
-KnowsBlanks m line blanks = (name : List ℕ) (least : ℕ) → get (pointwise nat_eq) blanks name ≡ Some least → (depth : ℕ) → least ≤ depth → IsBlank (use_of depth m line name)
+KnowsBlanks m line blanks = (name : List ℕ) (least : ℕ) → get (pointwise nat_eq) blanks name ≡ Some least
+    → (depth : ℕ) → least ≤ depth → IsBlank (use_of depth m line name)
+
+-- whether what gives nothing from this depth on, if from any, does so at this one
+abbrev pub is_from : Option ℕ → ℕ → Bool
+is_from None depth = false
+is_from (Some least) depth = nat_le least depth
 
 -- whether a name is noted at this depth
-abbrev pub IsNoted : {S : Type 0} → IndexMap (List ℕ) ℕ S → List ℕ → ℕ → Bool → Type 0
-IsNoted blanks name depth true = (least : ℕ) × (get (pointwise nat_eq) blanks name ≡ Some least) × (least ≤ depth)
-IsNoted blanks name depth false = Unit {0}
+abbrev pub is_noted : {S : Type 0} → IndexMap (List ℕ) ℕ S → List ℕ → ℕ → Bool
+is_noted blanks name depth = is_from (get (pointwise nat_eq) blanks name) depth
 
 -- the name was noted with this depth, if it was to be; or memory was wanted and nothing was noted
 abbrev pub Notes : {S : Type 0} → IndexMap (List ℕ) ℕ S → IndexMap (List ℕ) ℕ S → List ℕ → ℕ → Bool → Result (Unit {0}) PreFault → Type 0
-Notes old new name depth is_due (Ok u) = (x : List ℕ) → get (pointwise nat_eq) new x ≡ cond (is_due && pointwise nat_eq name x) (Some depth) (get (pointwise nat_eq) old x)
+Notes old new name depth is_due (Ok u) =
+    (x : List ℕ) → get (pointwise nat_eq) new x ≡ cond (is_due && pointwise nat_eq name x) (Some depth) (get (pointwise nat_eq) old x)
 Notes old new name depth is_due (Err f) = (told f ≡ None) × ((x : List ℕ) → get (pointwise nat_eq) new x ≡ get (pointwise nat_eq) old x)

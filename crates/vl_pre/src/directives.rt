@@ -1,7 +1,6 @@
 //! What directives do.
 
-ghost use Rattle.std.specs.Prelude.{◌≡◌, ◌++◌, ◌∷◌, [], false, reverse, MatchOption};
-ghost use Rattle.vl_pre.specs.Pieces as p;
+ghost use Rattle.std.specs.Prelude.{ℕ, ◌≡◌, ◌++◌, ◌∷◌, [], reverse, MatchOption};
 ghost use Rattle.vl_pre.specs.Directives as d;
 ghost use Rattle.vl_pre.specs.Reading.{Copies, Goes};
 ghost use Rattle.vl_pre.specs.Views.{directive_of, place_of};
@@ -104,7 +103,7 @@ fn turn(alloc: Global, line: u32, at: &mut Cursor, place: &mut Place) -> Result<
 
 // Passes over the rest of the line.
 fn pass(alloc: Global, at: &mut Cursor) -> Result<(), PreFault>
-    ensures { (place : Place) → Goes at.new place (p.and_then (d.line_of false at.old) (λ passed. d.went (place_of place) passed.1)) result }
+    ensures { (line : ℕ) (place : Place) → Goes at.new place (d.directive_step d.passed_over line (place_of place) at.old) result }
 {
     rest_of_line(alloc, at, false)?;
     Ok(())

@@ -1,9 +1,9 @@
 //! The use of macros.
 
-ghost use Rattle.std.specs.Prelude.{◌≤◌, ◌<◌, length};
+ghost use Rattle.std.specs.Prelude.{◌≡◌, ◌≤◌, ◌<◌, length};
 ghost use Rattle.vl_pre.specs.Bytes as b;
 ghost use Rattle.vl_pre.specs.CleanText as t;
-ghost use Rattle.vl_pre.specs.Reading.{Gives, IsNoted, KnowsBlanks, Notes, Writes, body_piece_at, body_use_at};
+ghost use Rattle.vl_pre.specs.Reading.{Gives, KnowsBlanks, Notes, Writes, body_piece_at, body_use_at, is_noted};
 ghost use Rattle.vl_pre.specs.Views.{macros_of};
 
 use crate::clean::{Clean, write_piece};
@@ -24,7 +24,7 @@ pub type Blanks = IndexMap<Text, u32>;
 
 // Whether the use of a name is known to give nothing at this depth.
 fn is_blank(blanks: &Blanks, name: &Text, depth: u32) -> bool
-    ensures { IsNoted blanks.now name.now depth result }
+    ensures { result ≡ is_noted blanks.now name.now depth }
 {
     match blanks.get(name) {
         Some(least) => *least <= depth,
@@ -93,7 +93,7 @@ fn write_body(
     requires room { length out.old ≤ b.most_clean }
     requires known { KnowsBlanks (macros_of macros.now) line blanks.old }
     ensures known { KnowsBlanks (macros_of macros.now) line blanks.new }
-    ensures gives { Gives out.old out.new (t.body_reading (t.use_of depth (macros_of macros.now) line) line (length body.now) (b.all_at line body.now)) result }
+    ensures gives { Gives out.old out.new (t.whole_body (t.use_of depth (macros_of macros.now) line) line body.now) result }
 {
     let mut at = Cursor::over_body(body, line);
     while !at.bytes().is_empty() {

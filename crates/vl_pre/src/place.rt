@@ -83,7 +83,8 @@ impl Place {
 
     /// Goes on to the next branch of the innermost condition: whether it holds, and whether it is the one of `else`.
     pub fn turn(&mut self, line: u32, holds: bool, last: bool) -> Result<(), PreFault>
-        ensures { (rest : b.Text) → Goes rest self.new (d.branch_step line (place_of self.old) (place_of self.old).conditions holds last rest) result }
+        ensures { (rest : b.Text) → Goes rest self.new
+            (d.branch_step line (place_of self.old) (place_of self.old).conditions holds last rest) result }
     {
         let Some(mut condition) = self.conditions.pop() else {
             return Err(PreFault::Unbalanced { line });

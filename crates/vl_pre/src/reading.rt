@@ -46,7 +46,8 @@ fn take_step(
 ) -> Result<(), PreFault>
     requires some { 0 < length at.old }
     requires room { length out.old ≤ b.most_clean }
-    ensures { Steps out.old out.new at.new place.new (step_at (d.is_read (place_of place.old).conditions) (place_of place.old) at.old) result }
+    ensures { Steps out.old out.new at.new place.new
+        (step_at (d.is_read (place_of place.old).conditions) (place_of place.old) at.old) result }
 {
     if place.is_read() {
         read_step(alloc, at, place, out)

@@ -14,4 +14,4 @@ returns-in-Endif c =
 
 pub returns-in-Passed : goal.returns-in-Passed
 returns-in-Passed c =
-    goes_as c.pass.new.at c.args.place.now _ _ c.pass.result (ap (λ d. directive_step (directive_of d) c.args.line (place_of c.args.place.now) c.args.at.now) c.in-Passed.is) (c.pass.ensures c.args.place.now)
+    goes_as c.pass.new.at c.args.place.now _ _ c.pass.result (ap (λ d. directive_step (directive_of d) c.args.line (place_of c.args.place.now) c.args.at.now) c.in-Passed.is) (c.pass.ensures c.args.line c.args.place.now)

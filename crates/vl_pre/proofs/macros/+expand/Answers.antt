@@ -1,12 +1,14 @@
 use Rattle.std.proofs.Common.{rules, ◌≡◌, ◌-◌, ◌<◌, ◌≤◌, [], drop, length, List, ℕ, refl, sym, subst, ap, ◌∙◌, arith, nat_eq}
 use Rattle.std.specs.Prelude.{Some, None}
 use Rattle.std.proofs.lemmas.Result.{err_from_is_err_and}
+use Rattle.std.specs.Cmp.Lexicographic.{pointwise}
+use Rattle.indexmap.specs.IndexMap.{get}
 use Rattle.vl_pre.specs.Bytes.{all_at, at_line}
 use Rattle.std.proofs.lemmas.Bool.{eqb-true}
-use Rattle.vl_pre.proofs.BlankLaws.{blank_wrote, wrote_blank, knows_noted, gives_noted}
+use Rattle.vl_pre.proofs.BlankLaws.{noted_from, blank_wrote, wrote_blank, knows_noted, gives_noted}
 use Rattle.vl_pre.specs.Pieces.{Part, fault, unknown_macro, macro_depth, bad_directive}
-use Rattle.vl_pre.specs.CleanText.{use_of, body_reading}
-use Rattle.vl_pre.specs.Reading.{told, macros_of, IsBlank, IsNoted, Wrote, body_piece_at}
+use Rattle.vl_pre.specs.CleanText.{use_of, whole_body, body_reading}
+use Rattle.vl_pre.specs.Reading.{told, macros_of, IsBlank, Wrote, body_piece_at}
 use Rattle.std.proofs.lemmas.List.{length-map}
 use Rattle.vl_pre.proofs.ReadingLaws.{empty_text}
 use Rattle.vl_pre.proofs.StepLaws.{body_at_length, body_reads_more}
@@ -32,7 +34,7 @@ expand-returns-in_err-write_body-clause-gives t c =
     let m = macros_of c.args.macros.now in
     let line = c.args.line in
     let some : m c.args.name.now ≡ Some c.in-Some.body.now = ap m (sym c.in-Ok.ensures) ∙ sym c.in-Some.ensures.value in
-    let reading = λ (body : List ℕ). body_reading (use_of (c.args.depth - 1) m line) line (length body) (all_at line body) in
+    let reading = whole_body (use_of (c.args.depth - 1) m line) line in
     let p = err_from_is_err_and c.from_residual.result c.from_residual.ensures.1 in
     rw (p.1, p.2) (ends_as c.args.out.now _ (reading c.bytes.result.now) (told c.in_err-write_body.field-0.0)
     (use_body c.args.depth m line c.args.name.now c.in-Some.body.now (omega arith) some ∙ ap reading (sym c.bytes.ensures)) c.in_err-write_body.ensures.gives)
@@ -40,7 +42,7 @@ expand-returns-in_err-write_body-clause-gives t c =
 pub expand-returns-then-is_blank-clause-gives : goal.expand-returns-then-is_blank-clause-gives
 expand-returns-then-is_blank-clause-gives t c =
     let m = macros_of c.args.macros.now in
-    let noted = subst (λ b. IsNoted c.args.blanks.now c.in-Ok.name c.args.depth b) c.if-is_blank.true c.is_blank.ensures in
+    let noted = noted_from (get (pointwise nat_eq) c.args.blanks.now c.in-Ok.name) c.args.depth (sym c.is_blank.ensures ∙ c.if-is_blank.true) in
     let P : List ℕ → Type 0 = λ n. IsBlank (use_of c.args.depth m c.args.line n) in
     blank_wrote c.args.out.now _ c.requires.room (subst P c.in-Ok.ensures (c.requires.known c.in-Ok.name noted.0 noted.1 c.args.depth noted.2))
 
@@ -49,7 +51,7 @@ expand-returns-clause-known t c =
     let m = macros_of c.args.macros.now in
     let line = c.args.line in
     let some : m c.in-Ok.name ≡ Some c.in-Some.body.now = sym c.in-Some.ensures.value in
-    let reading = λ (body : List ℕ). body_reading (use_of (c.args.depth - 1) m line) line (length body) (all_at line body) in
+    let reading = whole_body (use_of (c.args.depth - 1) m line) line in
     let p : Part = use_of c.args.depth m line c.in-Ok.name in
     let wrote : Wrote c.args.out.now c.write_body.new.out p.rest p =
     wrote_as c.args.out.now c.write_body.new.out p (reading c.bytes.result.now) (use_body c.args.depth m line c.in-Ok.name c.in-Some.body.now (omega arith) some ∙ ap reading (sym c.bytes.ensures))
@@ -62,7 +64,7 @@ expand-returns-clause-gives t c =
     let m = macros_of c.args.macros.now in
     let line = c.args.line in
     let some : m c.args.name.now ≡ Some c.in-Some.body.now = ap m (sym c.in-Ok.ensures) ∙ sym c.in-Some.ensures.value in
-    let reading = λ (body : List ℕ). body_reading (use_of (c.args.depth - 1) m line) line (length body) (all_at line body) in
+    let reading = whole_body (use_of (c.args.depth - 1) m line) line in
     let p : Part = use_of c.args.depth m line c.args.name.now in
     gives_noted c.args.out.now c.write_body.new.out p c.write_body.new.blanks c.note.new.blanks c.in-Ok.name c.args.depth (nat_eq c.len.result c.len-before.result) c.note.result
     (wrote_as c.args.out.now c.write_body.new.out p (reading c.bytes.result.now) (use_body c.args.depth m line c.args.name.now c.in-Some.body.now (omega arith) some ∙ ap reading (sym c.bytes.ensures))

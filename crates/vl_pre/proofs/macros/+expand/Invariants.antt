@@ -1,6 +1,6 @@
 use Rattle.std.proofs.Common.{◌≤◌, ◌+◌, ◌*◌, length}
 use Rattle.vl_pre.specs.Bytes.{all_at, most_clean}
-use Rattle.vl_pre.specs.CleanText.{use_of, body_reading}
+use Rattle.vl_pre.specs.CleanText.{use_of, whole_body}
 use Rattle.vl_pre.specs.Reading.{macros_of, KnowsBlanks}
 use Rattle.vl_pre.proofs.StepLaws.{ReadsBody}
 use Rattle.vl_pre.proofs.macros.+expand.Given as goal
@@ -19,7 +19,7 @@ decreases-write_use l = 4 * l.depth + 1
 
 abbrev pub invariant-write_body-loop-at : goal.invariant-write_body-loop-at
 invariant-write_body-loop-at l = record {
-  reads : ReadsBody l.fn.out (body_reading (use_of l.depth (macros_of l.macros) l.line) l.line (length l.fn.body) (all_at l.line l.fn.body)) l.out (use_of l.depth (macros_of l.macros) l.line) l.line l.at;
+  reads : ReadsBody l.fn.out (whole_body (use_of l.depth (macros_of l.macros) l.line) l.line l.fn.body) l.out (use_of l.depth (macros_of l.macros) l.line) l.line l.at;
   fits : length l.out ≤ most_clean;
   known : KnowsBlanks (macros_of l.macros) l.line l.blanks;
 }
