@@ -1,6 +1,6 @@
 -- Text is read exactly where each open condition is in its first branch that holds.
 use Rattle.std.proofs.Common.{◌≡◌, ℕ, Bool, true, false, not, ◌&&◌, ◌||◌, List, [], ◌∷◌, refl, ap, ◌∙◌}
-use Rattle.vl_pre.specs.Directives.{Condition, is_read}
+use Rattle.vl_pre.specs.Directives.{is_read}
 use Rattle.vl_pre.specs.Laws.{one_holds, is_first_to_hold, all_first_to_hold, come_to, all_come_to, ReadInFirstToHold}
 
 settled_more : (around one holds : Bool) → ((not around || one) || holds) ≡ (not around || (holds || one))

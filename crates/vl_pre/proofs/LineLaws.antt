@@ -9,7 +9,7 @@ use Rattle.vl_pre.specs.declared.lines.InLine as next
 use Rattle.vl_pre.specs.declared.names.Ticked as tick
 use Rattle.vl_pre.specs.declared.names.Ticked.TheVariants as v
 use Rattle.vl_pre.specs.Bytes.{Text, Placed, bytes, begins, name_at}
-use Rattle.vl_pre.specs.Pieces.{line_comment, block_comment, InLine, continued, inside, Part, Fault, fault, bad_directive, gives, stops, go_on, and_then, from_stop, behind_block, blank, in_line, kept, kept_length, rest_of_line}
+use Rattle.vl_pre.specs.Pieces.{line_comment, block_comment, continued, inside, Part, Fault, fault, bad_directive, gives, stops, go_on, and_then, from_stop, behind_block, blank, in_line, kept, kept_length, rest_of_line}
 use Rattle.vl_pre.specs.Directives.{Ticked, no_name, a_directive, a_macro, ticked, at_gap, behind_one, behind_gap, macro_name, name_of}
 use Rattle.vl_pre.specs.Views.{head_of, in_line_of, ticked_of}
 use Rattle.vl_pre.specs.Reading.{HasFault, PartHasFault, Keeps, ended, next_in_line, piece_at, piece_in_line, head_line}

@@ -5,7 +5,7 @@ use Rattle.vl_pre.specs.declared.pieces.First.{First}
 use Rattle.vl_pre.specs.declared.pieces.First.TheVariants.{LineComment, BlockComment, Quote, Backslash, Tick, Plain}
 use Rattle.vl_pre.specs.declared.names.Ticked as tick
 use Rattle.vl_pre.specs.declared.names.Ticked.TheVariants as v
-use Rattle.vl_pre.specs.Bytes.{Text, bytes, name_at, all_at}
+use Rattle.vl_pre.specs.Bytes.{Text, bytes, name_at}
 use Rattle.vl_pre.specs.Pieces.{Part, unknown_macro, macro_depth, bad_directive, gives, fails, go_on, first}
 use Rattle.vl_pre.specs.Directives.{Ticked, no_name, a_directive, a_macro, Macros, ticked}
 use Rattle.vl_pre.specs.CleanText.{use_of, expanded, whole_body, body_reading, body_tick}

@@ -1,4 +1,4 @@
-use Rattle.std.proofs.Common.{◌≡◌, sym, ap, ◌∙◌}
+use Rattle.std.proofs.Common.{◌≡◌, ap, ◌∙◌}
 use Rattle.vl_pre.specs.Bytes.{bytes}
 use Rattle.vl_pre.specs.Pieces.{in_line}
 use Rattle.vl_pre.specs.Reading.{piece_in_line}

@@ -3,7 +3,7 @@ use Rattle.std.specs.Prelude.{Some, None}
 use Rattle.std.proofs.lemmas.Result.{err_from_is_err_and}
 use Rattle.std.specs.Cmp.Lexicographic.{pointwise}
 use Rattle.indexmap.specs.IndexMap.{get}
-use Rattle.vl_pre.specs.Bytes.{all_at, at_line}
+use Rattle.vl_pre.specs.Bytes.{at_line}
 use Rattle.std.proofs.lemmas.Bool.{eqb-true}
 use Rattle.vl_pre.proofs.BlankLaws.{noted_from, blank_wrote, wrote_blank, knows_noted, gives_noted}
 use Rattle.vl_pre.specs.Pieces.{Part, fault, unknown_macro, macro_depth, bad_directive}

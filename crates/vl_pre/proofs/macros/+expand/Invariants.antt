@@ -1,5 +1,5 @@
 use Rattle.std.proofs.Common.{◌≤◌, ◌+◌, ◌*◌, length}
-use Rattle.vl_pre.specs.Bytes.{all_at, most_clean}
+use Rattle.vl_pre.specs.Bytes.{most_clean}
 use Rattle.vl_pre.specs.CleanText.{use_of, whole_body}
 use Rattle.vl_pre.specs.Reading.{macros_of, KnowsBlanks}
 use Rattle.vl_pre.proofs.StepLaws.{ReadsBody}
