@@ -1,4 +1,6 @@
-//! What operators.rattle does, on the numbers of the machine: u32, u64 and u128.
+//! What operators.rattle does, in plain Rust: on the numbers of the machine, u32, u64 and u128, and with the word `vectors` on vectors
+//! that carry their width, as those of `bit_ops` do.
+use std::env;
 use std::time::Instant;
 
 #[derive(Clone, Copy)]
@@ -149,15 +151,104 @@ machine!(short, u32, i32);
 machine!(middle, u64, i64);
 machine!(long, u128, i128);
 
-fn main() {
-    for report in [short, middle, long] {
-        for (name, op) in OPS {
-            report(name, Some(op), false);
+#[derive(Clone, Copy)]
+struct Bits {
+    width: u32,
+    value: u128,
+}
+
+fn low(value: u128, width: u32) -> u128 {
+    value & (u128::MAX >> (128 - width))
+}
+
+fn integer(a: Bits) -> i128 {
+    ((a.value << (128 - a.width)) as i128) >> (128 - a.width)
+}
+
+fn bit(holds: bool) -> Bits {
+    Bits { width: 1, value: u128::from(holds) }
+}
+
+fn binary(op: Binary, a: Bits, b: Bits, signed: bool) -> Bits {
+    let (width, x, y) = (a.width, a.value, b.value);
+    let value = match op {
+        Binary::Mul => low(x.wrapping_mul(y), width),
+        Binary::Div | Binary::Rem if y == 0 => 0,
+        Binary::Div if signed => low(integer(a).wrapping_div(integer(b)) as u128, width),
+        Binary::Div => x / y,
+        Binary::Rem if signed => low(integer(a).wrapping_rem(integer(b)) as u128, width),
+        Binary::Rem => x % y,
+        Binary::Add => low(x.wrapping_add(y), width),
+        Binary::Sub => low(x.wrapping_sub(y), width),
+        Binary::Sar if signed => low((integer(a) >> y.min(127)) as u128, width),
+        Binary::Shl | Binary::Shr | Binary::Sar if y >= 128 => 0,
+        Binary::Shl => low(x << y, width),
+        Binary::Shr | Binary::Sar => x >> y,
+        Binary::Lt if signed => return bit(integer(a) < integer(b)),
+        Binary::Le if signed => return bit(integer(a) <= integer(b)),
+        Binary::Gt if signed => return bit(integer(a) > integer(b)),
+        Binary::Ge if signed => return bit(integer(a) >= integer(b)),
+        Binary::Lt => return bit(x < y),
+        Binary::Le => return bit(x <= y),
+        Binary::Gt => return bit(x > y),
+        Binary::Ge => return bit(x >= y),
+        Binary::Eq => return bit(x == y),
+        Binary::Ne => return bit(x != y),
+        Binary::And => x & y,
+        Binary::Xor => x ^ y,
+        Binary::Xnor => low(!(x ^ y), width),
+        Binary::Or => x | y,
+        Binary::LogicAnd => return bit(x != 0 && y != 0),
+        Binary::LogicOr => return bit(x != 0 || y != 0),
+    };
+    Bits { width, value }
+}
+
+#[derive(Clone, Copy)]
+struct VectorStep {
+    op: Binary,
+    a: Bits,
+    b: Bits,
+    signed: bool,
+}
+
+fn vectors(width: u32, name: &str, only: Option<Binary>, signed: bool) {
+    let steps: Vec<VectorStep> = steps(only, width)
+        .into_iter()
+        .map(|(op, a, b)| VectorStep { op, a: Bits { width, value: a }, b: Bits { width, value: b }, signed })
+        .collect();
+    for _ in 0..10 {
+        let start = Instant::now();
+        let mut sum: u128 = 0;
+        for _ in 0..500 {
+            for step in &steps {
+                sum = sum.wrapping_add(binary(step.op, step.a, step.b, step.signed).value);
+            }
         }
-        report("mixed", None, false);
-        report("mixed", None, true);
-        report("<", Some(Binary::Lt), true);
-        report(">>>", Some(Binary::Sar), true);
-        report("/", Some(Binary::Div), true);
+        let time = start.elapsed().as_nanos();
+        println!("{name} {width} {signed} {sum} {time}");
+    }
+}
+
+fn report_all(report: impl Fn(&str, Option<Binary>, bool)) {
+    for (name, op) in OPS {
+        report(name, Some(op), false);
+    }
+    report("mixed", None, false);
+    report("mixed", None, true);
+    report("<", Some(Binary::Lt), true);
+    report(">>>", Some(Binary::Sar), true);
+    report("/", Some(Binary::Div), true);
+}
+
+fn main() {
+    if env::args().nth(1).is_some_and(|word| word == "vectors") {
+        for width in [32, 64, 128] {
+            report_all(|name, only, signed| vectors(width, name, only, signed));
+        }
+    } else {
+        report_all(short);
+        report_all(middle);
+        report_all(long);
     }
 }

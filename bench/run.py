@@ -1,18 +1,17 @@
 #!/usr/bin/env python3
 """Times the built program over long stimuli and prints ratios: run it after ./dessert --version has built the program.
 
-Each time is the best of five runs. `wc -l` over the same bytes is the measure of reading alone.
+Runs alternate, and a figure is the median of nine, in processor time. `wc -l` over the same bytes is the measure of reading alone.
 """
 import os
+import statistics
 import subprocess
 import tempfile
-import time
 
-TOP = os.path.dirname(os.path.dirname(os.path.abspath(__file__)))
-PROGRAM = os.path.join(TOP, "crates", "dessert_cli", "out", "dessert_cli")
-COUNTER = os.path.join(TOP, "examples", "cnt.v")
+from common import COUNTER, PROGRAM, processor_time
+
 MOST_ROWS = 1_048_576
-RUNS = 5
+RUNS = 9
 
 
 def stimulus(folder, rows, row):
@@ -23,27 +22,31 @@ def stimulus(folder, rows, row):
     return path
 
 
-def best(command, path):
-    times = []
-    for _ in range(RUNS):
-        with open(path, "rb") as source:
-            start = time.perf_counter()
-            subprocess.run(command, stdin=source, stdout=subprocess.DEVNULL, stderr=subprocess.DEVNULL)
-            times.append(time.perf_counter() - start)
-    return min(times)
+def time(command, path):
+    with open(path, "rb") as source:
+        before = processor_time()
+        subprocess.run(command, stdin=source, stdout=subprocess.DEVNULL, stderr=subprocess.DEVNULL)
+        return processor_time() - before
+
+
+def medians(runs):
+    times = [[time(command, path) for command, path in runs] for _ in range(RUNS)]
+    return [statistics.median(column) for column in zip(*times)]
 
 
 def main():
+    run = [PROGRAM, "sim", COUNTER]
     with tempfile.TemporaryDirectory() as folder:
         whole = stimulus(folder, MOST_ROWS, "0 0")
         half = stimulus(folder, MOST_ROWS // 2, "0 0")
         failing = stimulus(folder, MOST_ROWS, "0 1")
-        run = [PROGRAM, "sim", COUNTER]
-        quiet = best(run, whole)
-        print("%d cycles: %.3f s, %.1f million cycles a second" % (MOST_ROWS, quiet, MOST_ROWS / quiet / 1e6))
-        print("all rows / half of them: %.2f" % (quiet / best(run, half)))
-        print("a failure in cycle 9 / none: %.2f" % (best(run, failing) / quiet))
-        print("run / wc -l: %.1f" % (quiet / best(["wc", "-l"], whole)))
+        lagging = run[:2] + ["lag=16384"] + run[2:]
+        quiet, halved, early, lagged, lines = medians([(run, whole), (run, half), (run, failing), (lagging, whole), (["wc", "-l"], whole)])
+    print("%d cycles: %.3f s, %.1f million cycles a second" % (MOST_ROWS, quiet, MOST_ROWS / quiet / 1e6))
+    print("all rows / half of them: %.2f" % (quiet / halved))
+    print("a failure in cycle 9 / none: %.2f" % (early / quiet))
+    print("a lag of 16384 / of 64: %.2f" % (lagged / quiet))
+    print("run / wc -l: %.1f" % (quiet / lines))
 
 
 if __name__ == "__main__":
