@@ -6,15 +6,22 @@ cd "$(dirname -- "$(readlink -f -- "$0")")/.." || exit 1
 given=$(mktemp -d) || exit 1
 trap 'rm -rf "$given"' EXIT
 wanted=" $* "
+most=20
 ran=0
 failed=0
 
 # compare EXPECTED GIVEN NAME: says how two files differ, if they do.
 compare() {
-    cmp -s "$1" "$2" && return 0
+    cmp -s "$1" "$2" && return
+    if [ ! -s "$2" ]; then
+        echo "  no $3 was written, and $1 is expected"
+        return
+    fi
     echo "  the $3 differs from $1:"
-    diff -u "$1" "$2" | sed -e '1,2d' -e 's/^/    /'
-    return 1
+    diff -u "$1" "$2" | sed -e '1,2d' -e 's/^/    /' >"$given/difference"
+    head -n "$most" "$given/difference"
+    lines=$(wc -l <"$given/difference")
+    [ "$lines" -le "$most" ] || echo "    ... and $((lines - most)) lines more"
 }
 
 # check NAME STATUS WORDS...: runs the program with these words over NAME's stimulus.
@@ -29,22 +36,26 @@ check() {
         [ "$status" -eq "$expected" ] || echo "  the status is $status, and $expected is expected"
         compare "examples/$name.report" "$given/report" report
         # Without a failure no waveform is written.
-        if [ -f "examples/$name.vcd" ]; then waveform=examples/$name.vcd; else waveform=/dev/null; fi
+        if [ "$expected" -eq 1 ]; then waveform=examples/$name.vcd; else waveform=/dev/null; fi
         compare "$waveform" "$given/vcd" waveform
-    } >"$given/differences"
-    if [ -s "$given/differences" ]; then
+    } >"$given/found"
+    if [ -s "$given/found" ]; then
         failed=$((failed + 1))
         echo "$name: NOT as expected"
         echo "  ./dessert $* < examples/$name.stimulus"
-        cat "$given/differences"
+        cat "$given/found"
     else
         echo "$name: as expected"
     fi
 }
 
-./dessert --version >/dev/null || exit 1
+./dessert --version >"$given/version" || exit 1
 check cnt20 1 sim lag=4 examples/cnt.v
 check cnt9 0 sim examples/cnt.v
 check watchdog 0 sim examples/watchdog.v
+if [ "$ran" -eq 0 ]; then
+    echo "no example has one of these names: $*"
+    exit 1
+fi
 echo "$((ran - failed)) as expected, $failed not"
-[ "$failed" -eq 0 ] && [ "$ran" -gt 0 ]
+[ "$failed" -eq 0 ]
