@@ -12,6 +12,10 @@ failed=0
 
 # compare EXPECTED GIVEN NAME: says how two files differ, if they do.
 compare() {
+    if [ ! -e "$1" ]; then
+        echo "  $1 is missing"
+        return
+    fi
     cmp -s "$1" "$2" && return
     if [ ! -s "$2" ]; then
         echo "  no $3 was written, and $1 is expected"
