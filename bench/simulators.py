@@ -87,7 +87,7 @@ def icarus(folder):
 
 
 def verilator(folder):
-    if not shutil.which("verilator"):
+    if not all(shutil.which(it) for it in ("verilator", "make", "g++")):
         return None
     made = os.path.join(folder, "verilated")
     harness = os.path.join(BENCH, "counter_bench.cpp")
