@@ -57,6 +57,7 @@ check() {
 check cnt20 1 sim lag=4 examples/cnt.v
 check cnt9 0 sim examples/cnt.v
 check watchdog 0 sim examples/watchdog.v
+check timer 1 sim lag=14 examples/bus.v examples/timer.v
 if [ "$ran" -eq 0 ]; then
     echo "no example has one of these names: $*"
     exit 1
