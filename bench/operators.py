@@ -1,6 +1,6 @@
 #!/usr/bin/env python3
-"""Times each operator on bit vectors of 32, 64 and 128 bits beside plain Rust, and prints ratios: to the machine's own on u32, u64 and u128,
-and to Rust's on a vector of the same form, a width and a u128, which is what a width that is known only at run time costs.
+"""Times each operator on bit vectors of 32, 64 and 128 bits beside plain Rust, and prints ratios: to the machine's own on u32, u64 and
+u128, and to Rust's on a vector of the same form, a width and a u128, which is what a width that is known only at run time costs.
 
 It builds a program of operators.rattle by `rt run` in a copy of the crates that it stands on, so nothing of it stands in the
 repository's crates, and operators.rs by `rustc -O`. Each time is the best of ten runs over 512,000 steps that lie in memory. The sums

@@ -134,7 +134,8 @@ def compare_whole(folder, readers):
     print("                             MB/s    ns/byte  dessert / it")
     for name, it in reads.items():
         line("clean text, " + name, size, it.clean, ours.clean)
-    for name, command in (("iverilog -E", ["iverilog", "-E", "-o", os.path.join(folder, "out"), text]), ("verilator -E", ["verilator", "-E", text])):
+    icarus = ["iverilog", "-E", "-o", os.path.join(folder, "out"), text]
+    for name, command in (("iverilog -E", icarus), ("verilator -E", ["verilator", "-E", text])):
         if shutil.which(command[0]):
             line("clean text, " + name, size, best_process(command), ours.clean)
     for name, it in reads.items():

@@ -56,7 +56,8 @@ class Simulator:
 
     def kilobytes(self, path):
         with open(path, "rb") as source:
-            done = subprocess.run([GNU_TIME, "-f", "%M"] + self.command(path), stdin=source, stdout=subprocess.DEVNULL, stderr=subprocess.PIPE, text=True)
+            command = [GNU_TIME, "-f", "%M"] + self.command(path)
+            done = subprocess.run(command, stdin=source, stdout=subprocess.DEVNULL, stderr=subprocess.PIPE, text=True)
         return int(done.stderr.split()[-1])
 
 
@@ -124,7 +125,8 @@ def main():
         print("%d rows       ns a cycle  dessert / it  start, ms  failing / quiet" % ROWS)
         for it in simulators:
             time = times[it.name]
-            print("%-20s %8.1f %13.2f %10.1f %16.2f" % (it.name, time / ROWS * 1e9, ours / time, start[it.name] * 1e3, late[it.name] / time))
+            told = (it.name, time / ROWS * 1e9, ours / time, start[it.name] * 1e3, late[it.name] / time)
+            print("%-20s %8.1f %13.2f %10.1f %16.2f" % told)
             if it.build:
                 whole = time + it.build
                 print("%-20s %8.1f %13.2f" % ("  with its build", whole / ROWS * 1e9, ours / whole))
