@@ -134,7 +134,7 @@ def main():
             print("peak memory, KiB   %d rows  %d rows" % (FEW_ROWS, ROWS))
             for it in simulators:
                 print("%-18s %10d %13d" % (it.name, it.kilobytes(few), it.kilobytes(quiet)))
-        for name in {"Icarus", "Verilator"} - {it.name for it in peers}:
+        for name in sorted({"Icarus", "Verilator"} - {it.name for it in peers}):
             print("%s isn't installed" % name)
 
 
