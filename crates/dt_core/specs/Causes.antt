@@ -1,5 +1,5 @@
 -- What a call to the outside says of faults, and of the bytes that it took or wrote. This project's own.
-use Rattle.std.specs.Prelude.{ℕ, ◌+◌, ◌-◌, ◌^◌, ◌≤◌, ◌<◌, ◌↔◌, ◌⊎◌, min, List, length, take, Contains, Result, OnErr, OnOk, IsErr, Option, MatchResult}
+use Rattle.std.specs.Prelude.{ℕ, ◌+◌, ◌-◌, ◌^◌, ◌≤◌, ◌<◌, ◌↔◌, ◌⊎◌, min, List, length, take, Contains, Result, OnErr, IsErr, Option, MatchResult}
 use Rattle.std.specs.Io.KnownBytes.{Appends, Keeps}
 
 -- a count of faults rose in a call: it is greater after it, or stands at its last value
@@ -31,10 +31,3 @@ FailsAsNamed fails calls result = IsErr result ↔ IsNamed fails calls
 -- an error comes exactly in the calls that the list names, and in those where P holds
 abbrev pub FailsAsNamedOr : {T E : Type 0} → Type 0 → List ℕ → ℕ → Result T E → Type 0
 FailsAsNamedOr P fails calls result = IsErr result ↔ (IsNamed fails calls ⊎ P)
-
--- a text was written: whole where the call answers Ok, in any case a front of it, and an error has its cause
-pub record Writes {T E : Type 0} (old new : Option (List ℕ)) (before now : ℕ) (text : List ℕ) (result : Result T E) : Type 0 where
-  pub whole : OnOk result (Appends old new text)
-  pub part : AppendsPart old new text
-  pub later : before ≤ now
-  pub failed : OnErr result (Rose before now)
