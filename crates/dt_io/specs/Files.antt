@@ -38,9 +38,11 @@ ReadsWhole before now most old new (Err f.TooLong) =
     (take (length old) new ≡ old) × ((bytes : List ℕ) × (most < length bytes) × Consumes before now bytes)
 ReadsWhole before now most old new (Err f.Memory) = take (length old) new ≡ old
 
--- a file was opened, and read whole or past the limit, or what the vector held is its front; `left` is what an open file has left
+-- a file was opened, and read whole or past the limit, or what the vector held is still the front of it; `left` is what an open file
+-- has left
 abbrev pub ReadsFile : {F : Type 0} → (F → Option (List ℕ)) → ℕ → List ℕ → List ℕ → Result (Unit {0}) LoadFault → Type 0
 ReadsFile {F} left most old new (Ok u) = (opened : F) × (closed : F) × ReadsWhole (left opened) (left closed) most old new (Ok u)
 ReadsFile {F} left most old new (Err f.Failed) = take (length old) new ≡ old
-ReadsFile {F} left most old new (Err f.TooLong) = (opened : F) × (closed : F) × ReadsWhole (left opened) (left closed) most old new (Err f.TooLong)
+ReadsFile {F} left most old new (Err f.TooLong) =
+    (opened : F) × (closed : F) × ReadsWhole (left opened) (left closed) most old new (Err f.TooLong)
 ReadsFile {F} left most old new (Err f.Memory) = take (length old) new ≡ old
