@@ -1,6 +1,6 @@
 -- Worked examples of the operators.
 use Rattle.std.specs.Prelude.{◌≡◌, refl, ◌-◌, ◌^◌, true, false, pos, negsuc}
-use Rattle.bit_ops.specs.Operators.{low, residue, integer, extend, bit, holds, add, sub, mul, negate, div, rem, less, at_most, invert, all_ones, ones, is_odd, shift_left, shift_right, shift_right_signed, select, insert, concat, repeat, clog2}
+use Rattle.bit_ops.specs.Operators.{low, residue, integer, extend, bit, holds, add, sub, mul, negate, div, rem, less, at_most, invert, all_ones, ones, is_odd, shift_left, shift_right, shift_right_signed, select, insert, concat}
 
 -- 0x1f cut to four bits is 15
 low_cut : low 4 0x1f ≡ 15
@@ -165,21 +165,6 @@ insert_far = refl
 insert_beyond : insert 4 (pos 40) 2 3 9 ≡ 9
 insert_beyond = refl
 
--- {2'b10, 3'b011} and {3{2'b10}}
+-- {2'b10, 3'b011}
 concat_two : concat 3 2 3 ≡ 0b10011
 concat_two = refl
-
-repeat_three : repeat 3 2 2 ≡ 0b101010
-repeat_three = refl
-
-clog2_zero : clog2 0 ≡ 0
-clog2_zero = refl
-
-clog2_one : clog2 1 ≡ 0
-clog2_one = refl
-
-clog2_five : clog2 5 ≡ 3
-clog2_five = refl
-
-clog2_most : clog2 (2 ^ 128 - 1) ≡ 128
-clog2_most = refl

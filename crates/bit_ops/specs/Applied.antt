@@ -79,7 +79,8 @@ binary_width two.Or w = w
 binary_width two.LogicAnd w = 1
 binary_width two.LogicOr w = 1
 
--- s tells whether the operator is a signed one: whether both operands are signed, and of `>>>` whether the result is; `&`, `|` and `^` go bit by bit, as std defines them on numbers (5.1.10)
+-- s tells whether the operator is a signed one: whether both operands are signed, and of `>>>` whether the result is;
+-- `&`, `|` and `^` go bit by bit, as std defines them on numbers (5.1.10)
 abbrev pub binary : Binary → Bool → ℕ → ℕ → ℕ → ℕ
 binary two.Mul s w a b = ops.mul w a b
 binary two.Div s w a b = ops.div s w a b

@@ -2,8 +2,7 @@
 -- A value of width w is a whole number below 2 ^ w; its bit at place k stands for 2 ^ k.
 -- Arithmetic is done on whole numbers, and the result is taken modulo 2 ^ w.
 -- This project's own: values are two-state, a zero divisor gives 0, and places outside read 0.
-use Rattle.std.specs.Prelude.{ℕ, zero, suc, ◌+◌, ◌-◌, ◌*◌, ◌/◌, ◌%◌, ◌^◌, ◌==◌, Bool, true, false, not, if◌then◌else◌, nat_le, min, ℤ, pos, negsuc, ◌-ℤ◌, neg_ℤ, int_lt, int_le, int_div, int_rem, unwrap_or}
-use Rattle.dt_core.specs.Least.{least}
+use Rattle.std.specs.Prelude.{ℕ, zero, suc, ◌+◌, ◌-◌, ◌*◌, ◌/◌, ◌%◌, ◌^◌, ◌==◌, Bool, true, false, not, if◌then◌else◌, nat_le, min, ℤ, pos, negsuc, ◌-ℤ◌, neg_ℤ, int_lt, int_le, int_div, int_rem}
 
 -- ---- widths and signs
 
@@ -15,7 +14,7 @@ abbrev pub residue : ℕ → ℤ → ℕ
 residue w (pos n) = n % 2 ^ w
 residue w (negsuc n) = (2 ^ w - 1) - n % 2 ^ w
 
--- the whole number that n stands for at the width w: in two's complement where signed (5.1.3)
+-- the whole number that n stands for at the width w: in two's complement where signed (5.1.3, 5.1.6)
 abbrev pub integer : Bool → ℕ → ℕ → ℤ
 integer false w n = pos n
 integer true w n = if nat_le (2 ^ w) (2 * n) then pos n -ℤ pos (2 ^ w) else pos n
@@ -117,16 +116,7 @@ abbrev pub insert : ℕ → ℤ → ℕ → ℕ → ℕ → ℕ
 insert v (pos k) w b a = insert_at v k w b a
 insert v (negsuc k) w b a = insert_at v 0 (w - suc k) (b / 2 ^ suc k) a
 
--- ---- concatenation (5.1.14): b, of width w, to the right of a; and n copies of b
+-- ---- concatenation (5.1.14): b, of width w, to the right of a
 
 abbrev pub concat : ℕ → ℕ → ℕ → ℕ
 concat w a b = a * 2 ^ w + b
-
-abbrev pub repeat : ℕ → ℕ → ℕ → ℕ
-repeat zero w b = 0
-repeat (suc n) w b = concat w (repeat n w b) b
-
--- ---- $clog2 (17.11.1): the least k with n at most 2 ^ k, and 0 for 0
-
-abbrev pub clog2 : ℕ → ℕ
-clog2 n = unwrap_or (least (λ k. nat_le n (2 ^ k)) 129) 0
