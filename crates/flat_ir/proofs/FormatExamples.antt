@@ -1,7 +1,9 @@
 -- Worked examples of formats.
 use Rattle.std.specs.Prelude.{◌≡◌, refl, [], ◌∷◌, Some, None, codes}
 use Rattle.std.specs.Fmt.{digits}
+use Rattle.std.proofs.Common.{inr}
 use Rattle.flat_ir.specs.Format.{items, format_text}
+use Rattle.flat_ir.specs.Pieces.{Spells, byte, percent_sign, item}
 
 -- one item shows its argument, in either case of the letter
 text_of_item : format_text (codes "r hit %0d") (9 ∷ []) ≡ codes "r hit 9"
@@ -53,3 +55,7 @@ ended_behind_zero = refl
 
 other_letter : items (codes "%0x") ≡ None
 other_letter = refl
+
+-- the pieces of a format
+spelled : Spells (byte 114 ∷ percent_sign ∷ item ∷ []) (codes "r%%%0D")
+spelled = (codes "r", codes "%%%0D", (λ e. absurd cc, refl), (codes "%%", codes "%0D", refl, (codes "%0D", [], inr refl, refl, refl), refl), refl)

@@ -1,1 +1,4 @@
 mod FormatExamples
+pub mod PieceLaws
+pub mod SettledLaws
+mod FlatExamples

@@ -51,7 +51,7 @@ RoleFits inputs registers role.Clock = Unit {0}
 RoleFits inputs registers (role.Input i) = i < inputs
 RoleFits inputs registers (role.Register r) = r < registers
 
--- every number that the design holds names something that is there
+-- every number that the design holds names something that is there, and each signal has 1 to 128 bits
 pub record IsWellFormed (f : Flat) : Type 0 where
   pub nodes : (k : ℕ) (x : Node) → slice_get f.nodes k ≡ Some x → NodeFits f.inputs (length f.registers) k x
   pub conditions : (k : ℕ) (x : Action) → slice_get f.actions k ≡ Some x → x.condition < length f.nodes

@@ -10,7 +10,7 @@ input_name s role.Clock = []
 input_name s (role.Input i) = s.name ∷ []
 input_name s (role.Register r) = []
 
--- the names of the data inputs, in order of the signals
+-- the names of the data inputs, in order of the signals: the k-th is that of input k where a design stands for a module
 abbrev pub input_names : List Signal → List (List ℕ)
 input_names [] = []
 input_names (s ∷ ss) = input_name s s.role ++ input_names ss

@@ -2,6 +2,7 @@
 
 ghost use Rattle.std.specs.Prelude.{◌≡◌};
 ghost use Rattle.flat_ir.specs.FlatRun.{IsWellFormed};
+ghost use Rattle.flat_ir.specs.Settled.{SettlesOnce};
 
 use crate::design::{Action, Node, Signal};
 use dt_core::text::Text;
@@ -103,3 +104,8 @@ impl Flat {
         &self.actions
     }
 }
+
+/// The values of the nodes in a cycle are the one list in which each node has its value over the others.
+pub fn settled_law()
+    ensures { SettlesOnce }
+{}

@@ -3,9 +3,10 @@
 ghost use Rattle.std.specs.Prelude.{◌≡◌, ◌++◌, OnOk, option_to_list};
 ghost use Rattle.flat_ir.specs.Format as spec;
 ghost use Rattle.flat_ir.specs.FormatView as view;
+ghost use Rattle.flat_ir.specs.Pieces.{CountsItems, JoinsTexts};
 
+use dt_core::append::{push, push_number};
 use dt_core::fault::NoMemory;
-use itoa::Buffer;
 
 // What was read last: nothing of an item, a percent sign, or a percent sign and a 0.
 #[derive(Clone, Copy)]
@@ -91,7 +92,7 @@ pub fn write_format(
     for byte in format {
         match next_step(progress, *byte) {
             Step::Itself => {
-                into.extend_from_slice(&[*byte])?;
+                push(into, &[*byte])?;
                 progress = Progress::Outside;
             }
             Step::Into(next) => progress = next,
@@ -110,11 +111,17 @@ pub fn write_format(
 fn write_argument(into: &mut Vec<u8>, argument: Option<u128>) -> Result<(), NoMemory>
     ensures { OnOk result (into.new.items ≡ into.old.items ++ view.digits argument) }
 {
-    if let Some(number) = argument {
-        into.extend_from_slice(Buffer::new().format(number).as_bytes())?;
+    match argument {
+        Some(number) => push_number(into, number),
+        None => Ok(()),
     }
-    Ok(())
 }
+
+/// A format is pieces, one behind another: its items are counted exactly where it is spelled of some, and its text is theirs, joined.
+pub fn format_law()
+    ensures items { CountsItems }
+    ensures text { JoinsTexts }
+{}
 
 #[cfg(test)]
 mod tests {
