@@ -5,20 +5,20 @@ use Rattle.std.specs.Io.KnownBytes.{Consumes}
 use Rattle.stim.specs.declared.place.Place.{Place}
 use Rattle.stim.specs.declared.reader.StimFault.{StimFault}
 use Rattle.stim.specs.declared.reader.StimFault.TheVariants as f
-use Rattle.stim.specs.Stimulus.{header_text, rows_text, IsStimulus, Begins, IsWhole}
-use Rattle.stim.specs.Place.{AreRows, text_before, IsDead, IsOpen, IsUnended}
+use Rattle.stim.specs.Stimulus.{header_text, rows_text, IsStimulus, Begins, IsWhole, AreRows}
+use Rattle.stim.specs.Place.{text_before, IsDead, IsOpen, IsUnended}
 use Rattle.stim.specs.Reader.{Reader}
-use Rattle.stim.specs.Reads.{Reads, Answers, looked_at}
+use Rattle.stim.specs.Reads.{Reads, RowIs, looked_at}
 use Rattle.stim.specs.Row.{RowAnswers, IsRow, start_place}
 use Rattle.stim.proofs.Rows.{Fit-from_bits, AreRows-push}
 
 -- ---- by names in place of the header and the number of inputs
 
 rows_of : (names rows : List (List ℕ)) (bytes : List ℕ) → IsStimulus names rows bytes → AreRows (length names) rows
-rows_of names rows bytes h = record { few = h.few; fit = h.fit }
+rows_of names rows bytes h = h.are_rows
 
 stimulus_of : (names rows : List (List ℕ)) (bytes : List ℕ) → AreRows (length names) rows → bytes ≡ header_text names ++ rows_text rows → IsStimulus names rows bytes
-stimulus_of names rows bytes h is = record { text = is; few = h.few; fit = h.fit }
+stimulus_of names rows bytes h is = record { text = is; are_rows = h }
 
 begins_of : (names : List (List ℕ)) (bytes : List ℕ) → IsOpen (header_text names) (length names) bytes → Begins names bytes
 begins_of names bytes o = (o.0, o.1, stimulus_of names o.1 (bytes ++ o.0) o.2 o.3)
@@ -32,7 +32,7 @@ not_whole names bytes u w = u w.0 w.1.text
 -- ---- the answer
 
 rows_before : (names rows : List (List ℕ)) (taken : List ℕ) (old : Reader) → Reads names old taken rows → AreRows (length names) rows
-rows_before names rows taken old h = record { few = h.few; fit = h.fit }
+rows_before names rows taken old h = h.are_rows
 
 text_start : (header : List ℕ) (rows : List (List ℕ)) (row : List ℕ) (begun : Bool) → text_before header rows row (start_place begun) ≡ looked_at begun header rows
 text_start header rows row false = refl
@@ -49,7 +49,7 @@ answers_of : (names rows : List (List ℕ)) (all : List ℕ) (old new : Reader) 
     → HasCounted old new result
     → IsRow old.given new.row result
     → RowAnswers (header_text names) rows new.row new.held all left before now result
-    → Answers names rows all new left before now result
+    → RowIs names rows all new left before now result
 answers_of names rows all old new left before now (Ok true) h count size header counted row r =
     let fit = Fit-from_bits (length names) new.row size row.1 in
     let more = AreRows-push (length names) rows new.row h (omega (arith, row.0)) fit in (
@@ -58,8 +58,7 @@ answers_of names rows all old new left before now (Ok true) h count size header 
         inputs = size;
         count = length_push rows new.row ∙ ap (λ k. k + 1) count ∙ sym counted.1;
         bytes = r ∙ ap (λ b. looked_at b (header_text names) (rows ++ new.row ∷ []) ++ new.held) (sym counted.0);
-        few = more.few;
-        fit = more.fit;
+        are_rows = more;
       },
       fit,
     )
@@ -83,7 +82,7 @@ answered : (names rows : List (List ℕ)) (taken : List ℕ) (old new : Reader) 
     → HasCounted old new result
     → RowAnswered old.header old.row old.given old.held start new left0 left before now result
     → IsRow old.given new.row result
-    → (more : List ℕ) × Consumes left0 left more × Answers names rows (taken ++ more) new left before now result
+    → (more : List ℕ) × Consumes left0 left more × RowIs names rows (taken ++ more) new left before now result
 answered names rows taken old new left0 left before now start result h at header size counted answer row =
     let rs = rows_before names rows taken old h in
     let a = answer rows h.count (subst (λ n. AreRows n rows) (sym h.inputs) rs) in
@@ -105,7 +104,7 @@ pub answered_by : (names rows : List (List ℕ)) (taken : List ℕ) (old new : R
     (header row : List ℕ) (was : Result Bool StimFault) → header ≡ old.header → row ≡ old.row → was ≡ result
     → Reads names old taken rows → start ≡ start_place old.begun → new.header ≡ old.header → length new.row ≡ length old.row → HasCounted old new result
     → RowAnswered header row old.given old.held start new left0 left before now was → IsRow old.given new.row was
-    → (more : List ℕ) × Consumes left0 left more × Answers names rows (taken ++ more) new left before now result
+    → (more : List ℕ) × Consumes left0 left more × RowIs names rows (taken ++ more) new left before now result
 answered_by names rows taken old new left0 left before now start result header row was e f k h at same size counted a is =
     answered names rows taken old new left0 left before now start result h at same size counted
     (subst (λ x. RowAnswered x old.row old.given old.held start new left0 left before now result) e

@@ -41,7 +41,7 @@ two_rows_fit (suc zero) h = (omega arith, (omega arith, tt))
 two_rows_fit (suc (suc t)) h = absurd (omega (arith, h))
 
 text_of_two_rows : IsStimulus two_names two_rows (codes "stimulus 1\ninputs rst en\n0 1\n1 0\n")
-text_of_two_rows = record { text = refl; few = omega arith; fit = two_rows_fit }
+text_of_two_rows = record { text = refl; are_rows = record { few = omega arith; fit = two_rows_fit } }
 
 -- no inputs, and two rows
 abbrev two_empty_rows : List (List ℕ)
@@ -53,21 +53,21 @@ empty_rows_fit (suc zero) h = tt
 empty_rows_fit (suc (suc t)) h = absurd (omega (arith, h))
 
 text_without_inputs : IsStimulus [] two_empty_rows (codes "stimulus 1\ninputs\n\n\n")
-text_without_inputs = record { text = refl; few = omega arith; fit = empty_rows_fit }
+text_without_inputs = record { text = refl; are_rows = record { few = omega arith; fit = empty_rows_fit } }
 
 -- the header alone has no rows
 text_without_rows : IsStimulus two_names [] (codes "stimulus 1\ninputs rst en\n")
-text_without_rows = record { text = refl; few = omega arith; fit = λ t h. absurd (omega (arith, h)) }
+text_without_rows = record { text = refl; are_rows = record { few = omega arith; fit = λ t h. absurd (omega (arith, h)) } }
 
 -- ---- what is no stimulus
 
 -- a value has one bit
 two_is_no_value : IsStimulus (codes "d" ∷ []) ((2 ∷ []) ∷ []) (codes "stimulus 1\ninputs d\n2\n") → ⊥
-two_is_no_value s = let fits = s.fit 0 (omega arith) in absurd (omega (arith, fits.0))
+two_is_no_value s = let fits = s.are_rows.fit 0 (omega arith) in absurd (omega (arith, fits.0))
 
 -- a row has a value for each input
 short_row : IsStimulus two_names ((0 ∷ []) ∷ []) (codes "stimulus 1\ninputs rst en\n0\n") → ⊥
-short_row s = (s.fit 0 (omega arith)).1
+short_row s = (s.are_rows.fit 0 (omega arith)).1
 
 -- a front of a text goes on to a stimulus
 front_goes_on : Begins two_names (codes "stimulus 1\ninputs rst en\n0 1\n1 ")

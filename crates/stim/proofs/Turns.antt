@@ -4,12 +4,12 @@ use Rattle.std.proofs.lemmas.List.{take-append-drop}
 use Rattle.std.specs.Io.KnownBytes.{Consumes, IsAtEnd}
 use Rattle.std.proofs.KnownBytes.{Consumes-nil, Consumes-trans}
 use Rattle.dt_core.specs.Causes.{Rose}
-use Rattle.stim.specs.Stimulus.{rows_text}
+use Rattle.stim.specs.Stimulus.{rows_text, AreRows}
 use Rattle.stim.specs.declared.place.Place.{Place}
 use Rattle.stim.specs.declared.place.Place.TheVariants as p
 use Rattle.stim.specs.declared.reader.StimFault.{StimFault}
 use Rattle.stim.specs.declared.reader.StimFault.TheVariants as f
-use Rattle.stim.specs.Place.{AreBits, AreRows, text_before, values_before, IsPlace, IsDead, IsOpen, IsUnended}
+use Rattle.stim.specs.Place.{AreBits, text_before, values_before, IsPlace, IsDead, IsOpen, IsUnended}
 use Rattle.stim.specs.Scan.{RowEnds, GoesOn}
 use Rattle.stim.specs.Row.{RowAnswers, IsEnd}
 use Rattle.stim.proofs.Bytes.{open_at, unended_heading, unended_valuing, unended_following}

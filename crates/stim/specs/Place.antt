@@ -1,20 +1,14 @@
 -- Places in the text of a stimulus: what stands before a place, and what a byte does there. This project's own.
-use Rattle.std.specs.Prelude.{◌≡◌, ℕ, ◌+◌, ◌-◌, ◌*◌, ◌<◌, ◌≤◌, List, [], ◌∷◌, ◌++◌, length, take, replicate, slice_index_or, slice_set, All}
-use Rattle.flat_ir.specs.Names.{Fit}
+use Rattle.std.specs.Prelude.{◌≡◌, ℕ, ◌+◌, ◌-◌, ◌*◌, ◌<◌, ◌≤◌, List, [], ◌∷◌, ◌++◌, length, take, slice_set, All}
 use Rattle.stim.specs.declared.place.Place.{Place}
 use Rattle.stim.specs.declared.place.Place.TheVariants as p
 use Rattle.stim.specs.declared.place.Step.{Step}
 use Rattle.stim.specs.declared.place.Step.TheVariants as s
-use Rattle.stim.specs.Stimulus.{digit, rows_text}
+use Rattle.stim.specs.Stimulus.{digit, rows_text, AreRows, most_rows}
 
 -- each number is the value of one bit
 abbrev pub AreBits : List ℕ → Type 0
 AreBits vs = All (λ v. v < 2) vs
-
--- the rows are few enough, and each has a value of one bit for each input
-pub record AreRows (inputs : ℕ) (rows : List (List ℕ)) : Type 0 where
-  pub few : length rows ≤ 1048576
-  pub fit : (t : ℕ) → t < length rows → Fit (replicate inputs 1) (slice_index_or rows t [])
 
 -- ---- the text before a place
 
@@ -45,11 +39,11 @@ values_before (p.Following j) = j
 -- there is such a place behind this many rows, where the header has this many bytes and there are this many inputs
 abbrev pub IsPlace : ℕ → ℕ → ℕ → Place → Type 0
 IsPlace header inputs given (p.Heading k) = (k < header) × (given ≡ 0)
-IsPlace header inputs given p.Starting = given ≤ 1048576
-IsPlace header inputs given (p.Valuing j) = (1 ≤ j) × (j < inputs) × (given < 1048576)
-IsPlace header inputs given (p.Following j) = (1 ≤ j) × (j ≤ inputs) × (given < 1048576)
+IsPlace header inputs given p.Starting = given ≤ most_rows
+IsPlace header inputs given (p.Valuing j) = (1 ≤ j) × (j < inputs) × (given < most_rows)
+IsPlace header inputs given (p.Following j) = (1 ≤ j) × (j ≤ inputs) × (given < most_rows)
 
--- the most bytes that can come from a place to the end of the row
+-- no more bytes than this come from a place to the end of the row
 abbrev pub most_left : ℕ → ℕ → Place → ℕ
 most_left header inputs (p.Heading k) = (header - k) + (2 * inputs + 1)
 most_left header inputs p.Starting = 2 * inputs + 1
@@ -85,7 +79,7 @@ pub record Tells (header : List ℕ) (inputs given : ℕ) (place : Place) (byte 
   pub bit : value < 2
   pub next : input ≡ values_before place
   pub is_input : input < inputs
-  pub few : given < 1048576
+  pub few : given < most_rows
   pub nearer : most_left (length header) inputs (p.Following (input + 1)) < most_left (length header) inputs place
   pub text : (done : List (List ℕ)) (row : List ℕ) → input < length row
       → text_before header done (slice_set row input value) (p.Following (input + 1)) ≡ text_before header done row place ++ byte ∷ []
@@ -93,7 +87,7 @@ pub record Tells (header : List ℕ) (inputs given : ℕ) (place : Place) (byte 
 -- it ends the row
 pub record Ends (header : List ℕ) (inputs given : ℕ) (place : Place) (byte : ℕ) : Type 0 where
   pub whole : values_before place ≡ inputs
-  pub few : given < 1048576
+  pub few : given < most_rows
   pub text : (done : List (List ℕ)) (row : List ℕ) → length row ≡ inputs
       → header ++ rows_text (done ++ row ∷ []) ≡ text_before header done row place ++ byte ∷ []
 
@@ -103,7 +97,8 @@ Steps header inputs given place byte (s.Moved next) = Moves header inputs given 
 Steps header inputs given place byte (s.Told input value) = Tells header inputs given place byte input value
 Steps header inputs given place byte s.Ended = Ends header inputs given place byte
 Steps header inputs given place byte s.Refused =
-    (done : List (List ℕ)) (row : List ℕ) → length done ≡ given → length row ≡ inputs → IsDead header inputs (text_before header done row place ++ byte ∷ [])
+    (done : List (List ℕ)) (row : List ℕ) → length done ≡ given → length row ≡ inputs
+    → IsDead header inputs (text_before header done row place ++ byte ∷ [])
 
 -- a step where the value of an input must come
 abbrev pub IsTold : ℕ → ℕ → Step → Type 0

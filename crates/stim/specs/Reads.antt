@@ -1,12 +1,12 @@
 -- What a reader of a stimulus has read, and its answer to a request for a row. This project's own.
-use Rattle.std.specs.Prelude.{◌≡◌, ℕ, ◌<◌, ◌≤◌, Bool, true, false, List, [], ◌∷◌, ◌++◌, length, replicate, slice_index_or, Option, Result, Ok, Err}
+use Rattle.std.specs.Prelude.{◌≡◌, ℕ, Bool, true, false, List, [], ◌∷◌, ◌++◌, length, replicate, Option, Result, Ok, Err}
 use Rattle.std.specs.Io.KnownBytes.{IsAtEnd}
 use Rattle.dt_core.specs.Causes.{Rose}
 use Rattle.flat_ir.specs.Names.{Fit}
 use Rattle.stim.specs.declared.reader.StimFault.{StimFault}
 use Rattle.stim.specs.declared.reader.StimFault.TheVariants as f
 use Rattle.stim.specs.Reader.{Reader}
-use Rattle.stim.specs.Stimulus.{header_text, rows_text, IsStimulus, Begins, IsWhole}
+use Rattle.stim.specs.Stimulus.{header_text, rows_text, IsStimulus, Begins, IsWhole, AreRows}
 
 -- the text that was looked at: nothing, or the header and the rows so far
 abbrev pub looked_at : Bool → List ℕ → List (List ℕ) → List ℕ
@@ -20,15 +20,14 @@ pub record Reads (names : List (List ℕ)) (reader : Reader) (taken : List ℕ) 
   pub inputs : length reader.row ≡ length names
   pub count : length rows ≡ reader.given
   pub bytes : taken ≡ looked_at reader.begun (header_text names) rows ++ reader.held
-  pub few : length rows ≤ 1048576
-  pub fit : (t : ℕ) → t < length rows → Fit (replicate (length names) 1) (slice_index_or rows t [])
+  pub are_rows : AreRows (length names) rows
 
 -- the answer to a request for a row, where `all` is what was taken from the source so far, `left` what is left of it, and its
 -- count of faults stood at `before` and stands at `now`
-abbrev pub Answers : List (List ℕ) → List (List ℕ) → List ℕ → Reader → Option (List ℕ) → ℕ → ℕ → Result Bool StimFault → Type 0
-Answers names rows all reader left before now (Ok true) =
+abbrev pub RowIs : List (List ℕ) → List (List ℕ) → List ℕ → Reader → Option (List ℕ) → ℕ → ℕ → Result Bool StimFault → Type 0
+RowIs names rows all reader left before now (Ok true) =
     Reads names reader all (rows ++ reader.row ∷ []) × Fit (replicate (length names) 1) reader.row
-Answers names rows all reader left before now (Ok false) = IsStimulus names rows all × IsAtEnd left
-Answers names rows all reader left before now (Err f.NotBuilt) = Begins names all → ⊥
-Answers names rows all reader left before now (Err f.Truncated) = IsAtEnd left × Begins names all × (IsWhole names all → ⊥)
-Answers names rows all reader left before now (Err f.Read) = Rose before now × Begins names all
+RowIs names rows all reader left before now (Ok false) = IsStimulus names rows all × IsAtEnd left
+RowIs names rows all reader left before now (Err f.NotBuilt) = Begins names all → ⊥
+RowIs names rows all reader left before now (Err f.Truncated) = IsAtEnd left × Begins names all × (IsWhole names all → ⊥)
+RowIs names rows all reader left before now (Err f.Read) = Rose before now × Begins names all

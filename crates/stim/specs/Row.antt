@@ -6,7 +6,7 @@ use Rattle.stim.specs.declared.place.Place.{Place}
 use Rattle.stim.specs.declared.place.Place.TheVariants as p
 use Rattle.stim.specs.declared.reader.StimFault.{StimFault}
 use Rattle.stim.specs.declared.reader.StimFault.TheVariants as f
-use Rattle.stim.specs.Stimulus.{rows_text}
+use Rattle.stim.specs.Stimulus.{rows_text, most_rows}
 use Rattle.stim.specs.Place.{AreBits, IsDead, IsOpen, IsUnended}
 
 -- the place where a row starts, at the header where that was not read yet
@@ -16,7 +16,7 @@ start_place true = p.Starting
 
 -- a row that was read is one of few, and each of its values has one bit
 abbrev pub IsRow : ℕ → List ℕ → Result Bool StimFault → Type 0
-IsRow given row (Ok true) = (given < 1048576) × AreBits row
+IsRow given row (Ok true) = (given < most_rows) × AreBits row
 IsRow given row _ = Unit {0}
 
 -- the answer where `done` are the rows before, `row` the values that were read, and `held` the bytes that are held still

@@ -3,13 +3,13 @@ use Rattle.std.specs.Prelude.{◌≡◌, ℕ, ◌+◌, ◌<◌, ◌≤◌, List,
 use Rattle.stim.specs.declared.place.Place.{Place}
 use Rattle.stim.specs.declared.scan.Scan.{Scan}
 use Rattle.stim.specs.declared.scan.Scan.TheVariants as s
-use Rattle.stim.specs.Stimulus.{rows_text}
+use Rattle.stim.specs.Stimulus.{rows_text, most_rows}
 use Rattle.stim.specs.Place.{AreBits, text_before, values_before, IsPlace, most_left, IsDead}
 
 -- the row ends with the last of the first `used` bytes
 pub record RowEnds (header : List ℕ) (given : ℕ) (start : Place) (old new bytes : List ℕ) (used : ℕ) : Type 0 where
   pub within : used ≤ length bytes
-  pub few : given < 1048576
+  pub few : given < most_rows
   pub bits : AreBits new
   pub text : (done : List (List ℕ)) → length done ≡ given
       → header ++ rows_text (done ++ new ∷ []) ≡ text_before header done old start ++ take used bytes

@@ -31,11 +31,19 @@ abbrev pub rows_text : List (List ℕ) → List ℕ
 rows_text [] = []
 rows_text (r ∷ rs) = row_text r ++ rows_text rs
 
--- the bytes are the text of these rows: 1,048,576 at most, each with a value of one bit for each name
+-- how many rows there may be
+abbrev pub most_rows : ℕ
+most_rows = 1048576
+
+-- the rows are few enough, and each has a value of one bit for each input
+pub record AreRows (inputs : ℕ) (rows : List (List ℕ)) : Type 0 where
+  pub few : length rows ≤ most_rows
+  pub fit : (t : ℕ) → t < length rows → Fit (replicate inputs 1) (slice_index_or rows t [])
+
+-- the bytes are the text of these rows, which have a value for each name
 pub record IsStimulus (names rows : List (List ℕ)) (bytes : List ℕ) : Type 0 where
   pub text : bytes ≡ header_text names ++ rows_text rows
-  pub few : length rows ≤ 1048576
-  pub fit : (t : ℕ) → t < length rows → Fit (replicate (length names) 1) (slice_index_or rows t [])
+  pub are_rows : AreRows (length names) rows
 
 -- some stimulus begins with the bytes
 abbrev pub Begins : List (List ℕ) → List ℕ → Type 0

@@ -3,8 +3,9 @@
 ghost use Rattle.std.specs.Prelude.{◌≡◌, ◌≤◌, ◌↔◌, ◌∷◌, ◌++◌, [], List, ℕ, true, IfOk, IsTrue, Ok, length, take};
 ghost use Rattle.std.specs.Io.KnownBytes.{Consumes};
 ghost use Rattle.flat_ir.specs.Names.{input_names};
-ghost use Rattle.stim.specs.Place.{AreBits, AreRows, IsPlace, text_before, values_before};
-ghost use Rattle.stim.specs.Reads.{Answers, Reads};
+ghost use Rattle.stim.specs.Stimulus.{AreRows};
+ghost use Rattle.stim.specs.Place.{AreBits, IsPlace, text_before, values_before};
+ghost use Rattle.stim.specs.Reads.{RowIs, Reads};
 ghost use Rattle.stim.specs.Row.{IsEnd, IsRow, RowAnswers, start_place};
 
 use crate::buffer::Buffer;
@@ -82,7 +83,7 @@ impl StimReader {
         requires { IsTrue self.old.live }
         ensures answer { (names rows : List (List ℕ)) (taken : List ℕ) → Reads names self.old taken rows
             → (more : List ℕ) × Consumes (S.left source.old) (S.left source.new) more
-            × Answers names rows (taken ++ more) self.new (S.left source.new) (S.faults source.old) (S.faults source.new) result }
+            × RowIs names rows (taken ++ more) self.new (S.left source.new) (S.faults source.old) (S.faults source.new) result }
         ensures live { IsTrue self.new.live ↔ (result ≡ Ok true) }
         ensures later { S.faults source.old ≤ S.faults source.new }
     {
