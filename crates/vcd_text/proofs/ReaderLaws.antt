@@ -1,10 +1,10 @@
 -- A reader of the waveform's lines knows each signal's value at each time: the value that was last written for it.
 use Rattle.std.proofs.Common.{◌≡◌, ◌≢◌, ℕ, zero, suc, ◌<◌, ◌≤◌, ◌+◌, ◌*◌, Bool, true, false, if◌then◌else◌, List, [], ◌∷◌, ◌++◌, length, refl, sym, ap, ◌∙◌, append_assoc, arith}
-use Rattle.std.specs.Prelude.{Option, Some, None, nat_lt, ◌==◌, slice_get, ◌||◌}
+use Rattle.std.specs.Prelude.{Option, Some, None, nat_lt, ◌==◌, slice_get, slice_index_or, ◌||◌}
 use Rattle.std.proofs.lemmas.Bool.Decides.{nat_tests}
 use Rattle.flat_ir.specs.Variables.{Variable}
 use Rattle.vcd_text.specs.Vcd.{Line, time, value, dumpvars, end, all_values, changes, edges, has_clock, rise, risen, later, window_lines}
-use Rattle.vcd_text.specs.Reader.{read_at, AreFull, valuation, moment, seen}
+use Rattle.vcd_text.specs.Reader.{read_at, AreFull, moment, seen}
 
 -- ---- one line
 
@@ -170,7 +170,7 @@ at_cycle false cycle i = omega arith
 at_cycle true cycle i = omega arith
 
 later_read : (edge : Bool) (variables : List Variable) (vals : List (List ℕ)) (cycle i k : ℕ) (last : List ℕ) → AreFull variables vals → length last ≡ length variables → i < length vals → k < length variables
-    → read_at k (moment edge (cycle + i)) (later variables cycle last vals) (slice_get (risen variables last) k) ≡ slice_get (seen edge variables (valuation vals i)) k
+    → read_at k (moment edge (cycle + i)) (later variables cycle last vals) (slice_get (risen variables last) k) ≡ slice_get (seen edge variables (slice_index_or vals i [])) k
 later_read edge variables [] cycle i k last f l h j = absurd (omega arith)
 later_read edge variables (vs ∷ vals) cycle zero k last f l h j =
     ap (λ (ls : List Line). read_at k (moment edge (cycle + 0)) ls (slice_get (risen variables last) k)) (later_cons variables cycle last vs vals)
@@ -187,7 +187,7 @@ later_read edge variables (vs ∷ vals) cycle (suc i) k last f l h j =
 
 -- a reader who starts with nothing knows, at each of the two times of each cycle of the window, what each signal shows
 pub recovers : (edge : Bool) (variables : List Variable) (first : ℕ) (vals : List (List ℕ)) (i k : ℕ) → AreFull variables vals → i < length vals → k < length variables
-    → read_at k (moment edge (first + i)) (window_lines variables first vals) None ≡ slice_get (seen edge variables (valuation vals i)) k
+    → read_at k (moment edge (first + i)) (window_lines variables first vals) None ≡ slice_get (seen edge variables (slice_index_or vals i [])) k
 recovers edge variables first [] i k f h j = absurd (omega arith)
 recovers edge variables first (vs ∷ vals) zero k f h j =
     ap (λ (ls : List Line). read_at k (moment edge (first + 0)) ls None) (window_cons variables first vs vals)

@@ -1,5 +1,5 @@
 -- What a reader of the waveform knows, stated apart from the writer. This project's own.
-use Rattle.std.specs.Prelude.{◌≡◌, ℕ, zero, suc, ◌+◌, ◌-◌, ◌*◌, ◌^◌, ◌<◌, ◌==◌, Bool, true, false, if◌then◌else◌, nat_lt, List, [], ◌∷◌, length, fold, Option, Some, None, slice_get}
+use Rattle.std.specs.Prelude.{◌≡◌, ℕ, ◌+◌, ◌-◌, ◌*◌, ◌^◌, ◌<◌, ◌==◌, Bool, true, false, if◌then◌else◌, nat_lt, List, [], ◌∷◌, length, fold, Option, Some, None, slice_get, slice_index_or}
 use Rattle.flat_ir.specs.Variables.{Variable}
 use Rattle.vcd_text.specs.Vcd.{Line, time, value, dumpvars, end, bits, code, risen, window_lines}
 
@@ -16,12 +16,6 @@ abbrev pub AreFull : List Variable → List (List ℕ) → Type 0
 AreFull variables [] = Unit {0}
 AreFull variables (vs ∷ more) = (length vs ≡ length variables) × AreFull variables more
 
--- the valuation of the cycle that comes i cycles on
-abbrev pub valuation : List (List ℕ) → ℕ → List ℕ
-valuation [] i = []
-valuation (vs ∷ more) zero = vs
-valuation (vs ∷ more) (suc i) = valuation more i
-
 -- the two times of a cycle: while it settles, and behind the rising edge
 abbrev pub moment : Bool → ℕ → ℕ
 moment false cycle = 2 * cycle
@@ -32,11 +26,12 @@ abbrev pub seen : Bool → List Variable → List ℕ → List ℕ
 seen false variables vs = vs
 seen true variables vs = risen variables vs
 
--- a reader who starts with nothing knows at both times of each cycle of the window what each variable shows
+-- A reader who starts with nothing knows at both times of each cycle of the window what each variable shows. The valuations are those of
+-- the cycles from the first on.
 abbrev pub Recovers : Type 0
 Recovers = (edge : Bool) (variables : List Variable) (first : ℕ) (vals : List (List ℕ)) (i k : ℕ)
     → AreFull variables vals → i < length vals → k < length variables
-    → read_at k (moment edge (first + i)) (window_lines variables first vals) None ≡ slice_get (seen edge variables (valuation vals i)) k
+    → read_at k (moment edge (first + i)) (window_lines variables first vals) None ≡ slice_get (seen edge variables (slice_index_or vals i [])) k
 
 -- two variables have two codes
 abbrev pub CodesDiffer : Type 0

@@ -69,7 +69,8 @@ bits (suc w) v = (48 + (v / 2 ^ w) % 2) ∷ bits w v
 -- a value of width 1 is a digit and the code; a wider one is `b`, all its bits, a space and the code
 abbrev pub value_text : ℕ → ℕ → ℕ → List ℕ
 value_text width number v =
-    if width == 1 then bits 1 v ++ (code number ++ codes "\n") else codes "b" ++ (bits width v ++ (codes " " ++ (code number ++ codes "\n")))
+    if width == 1 then bits 1 v ++ (code number ++ codes "\n")
+    else codes "b" ++ (bits width v ++ (codes " " ++ (code number ++ codes "\n")))
 
 abbrev pub line_text : Line → List ℕ
 line_text (time t) = codes "#" ++ (decimal t ++ codes "\n")

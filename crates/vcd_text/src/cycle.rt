@@ -6,8 +6,8 @@ ghost use Rattle.vcd_text.specs.Cycle.{WidthsFit, cycle_lines};
 ghost use Rattle.vcd_text.specs.Vcd.{value, lines_text, all_values, changes, edges, has_clock, rise, risen, first_lines, later_lines};
 
 use crate::lines::{push_change, push_time, push_value};
-use dt_core::append::push;
 use crate::progress::Progress;
+use dt_core::append::push;
 use dt_core::fault::NoMemory;
 use flat_ir::design::{Role, Signal};
 use plain_sim::sim::Sim;
