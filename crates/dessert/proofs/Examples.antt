@@ -216,7 +216,7 @@ five_cycles = codes "$version dessert 1 $end\n$timescale 1 ns $end\n$scope modul
 
 twenty_rows_fail : Judges (job 4 (codes "examples/cnt.v" ∷ [])) counter_design twenty_rows (done true five_cycles (codes "failure at cycle 9\nstop in cnt at examples/cnt.v:9\nr hit 9\nwindow 5 to 9\n"))
 unfolding digits code
-twenty_rows_fail = (enabled 20, record { text = refl; few = omega arith; fit = enabled_fit 20 }, refl, refl, refl)
+twenty_rows_fail = (enabled 20, record { text = refl; are_rows = record { few = omega arith; fit = enabled_fit 20 } }, refl, refl, refl)
 
 -- nine rows don't come so far
 abbrev nine_rows : List ℕ
@@ -224,4 +224,4 @@ nine_rows = codes "stimulus 1\ninputs rst en\n0 1\n0 1\n0 1\n0 1\n0 1\n0 1\n0 1\
 
 nine_rows_are_quiet : Judges (job 64 (codes "examples/cnt.v" ∷ [])) counter_design nine_rows (done false [] (codes "no failure in 9 cycles\n"))
 unfolding digits
-nine_rows_are_quiet = (enabled 9, record { text = refl; few = omega arith; fit = enabled_fit 9 }, refl, refl, refl)
+nine_rows_are_quiet = (enabled 9, record { text = refl; are_rows = record { few = omega arith; fit = enabled_fit 9 } }, refl, refl, refl)

@@ -7,7 +7,8 @@ use Rattle.dt_core.proofs.WritesLaws.{rose_later}
 use Rattle.flat_ir.specs.FlatRun.{Flat}
 use Rattle.flat_ir.specs.Names.{Fit}
 use Rattle.stim.specs.Reader.{Reader}
-use Rattle.stim.specs.Reads.{Reads, Answers}
+use Rattle.stim.specs.Stimulus.{most_rows}
+use Rattle.stim.specs.Reads.{Reads, RowIs}
 use Rattle.stim.specs.declared.reader.StimFault.{StimFault}
 use Rattle.stim.specs.declared.reader.StimFault.TheVariants as s
 use Rattle.dessert.specs.Progress.{Progress}
@@ -36,7 +37,7 @@ module _ (flat : Flat) (names : List (List ℕ)) (start left left' : Option (Lis
     (far : Far flat names start left reader run) where
   -- what the reader answers to what was taken so far
   abbrev pub Came : Result Bool StimFault → Type 0
-  Came result = (more : List ℕ) × Consumes left left' more × Answers names far.rows (far.taken ++ more) reader' left' mid now result
+  Came result = (more : List ℕ) × Consumes left left' more × RowIs names far.rows (far.taken ++ more) reader' left' mid now result
 
   all_taken : (more : List ℕ) → Consumes left left' more → Consumes start left' (far.taken ++ more)
   all_taken more c = Consumes-trans start left left' far.taken more far.consumed c
@@ -59,8 +60,8 @@ module _ (flat : Flat) (names : List (List ℕ)) (start left left' : Option (Lis
   row_length a = a.2.0.inputs
 
   -- there is room for one row more
-  pub room : Came (Ok true) → run.cycles < 1048576
-  room a = let l = length-append far.rows (reader'.row ∷ []) in omega (arith, far.ran.count, a.2.0.few, l)
+  pub room : Came (Ok true) → run.cycles < most_rows
+  room a = let l = length-append far.rows (reader'.row ∷ []) in omega (arith, far.ran.count, a.2.0.are_rows.few, l)
 
   -- of the rows, and of those that are kept, and of cycles
   pub rooms : Came (Ok true) → (run.cycles < 4294967295) × (run.cycle < 4294967295) × (run.window.end < 4294967295)

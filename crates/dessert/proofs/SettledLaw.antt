@@ -98,7 +98,7 @@ module _ (f : Flat) (m : Module) (rows : List (List ℕ)) (s : StandsFor f m) (f
 
 -- rows of a stimulus fit the inputs of a module without static fault
 pub rows_fit : (m : Module) (rows : List (List ℕ)) (bytes : List ℕ) → is_sound m ≡ true → IsStimulus (data_inputs m) rows bytes → AllFit m rows
-rows_fit m rows bytes sound i = λ t h. subst (λ (ws : List ℕ). Fit ws (slice_index_or rows t [])) (sym (one_bit m sound)) (i.fit t h)
+rows_fit m rows bytes sound i = λ t h. subst (λ (ws : List ℕ). Fit ws (slice_index_or rows t [])) (sym (one_bit m sound)) (i.are_rows.fit t h)
 
 module _ (content : List ℕ → Option (List ℕ)) (told : Bool) (words : List (List ℕ)) (old new : Outside) where
   status_is : (o : Option Failure) → ended_by o ≡ done_status (fired_by o)
