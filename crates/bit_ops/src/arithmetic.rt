@@ -54,11 +54,13 @@ pub fn quotient(a: u128, b: u128, width: u32, signed: bool) -> u128
     if !signed {
         return divided(a, b);
     }
+    // Both answers are there before the choice, which half of all calls would foretell wrongly as a branch.
     let size = divided(magnitude(a, width, signed), magnitude(b, width, signed));
+    let opposite = negated(size, width);
     if is_negative(a, width, signed) == is_negative(b, width, signed) {
         size
     } else {
-        negated(size, width)
+        opposite
     }
 }
 
@@ -76,8 +78,9 @@ pub fn remainder(a: u128, b: u128, width: u32, signed: bool) -> u128
         return rest_of(a, b);
     }
     let rest = rest_of(magnitude(a, width, signed), magnitude(b, width, signed));
+    let opposite = negated(rest, width);
     if is_negative(a, width, signed) {
-        negated(rest, width)
+        opposite
     } else {
         rest
     }

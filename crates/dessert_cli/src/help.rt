@@ -6,7 +6,7 @@ pub const VERSION: &[u8] = b"dessert 1\n";
 /// Answers `--help`.
 pub const HELP: &[u8] = b"dessert: runs a Verilog design to its first failing assertion
 
-  dessert sim [lag=N] FILE... < STIMULUS > WAVEFORM
+  ./dessert sim [lag=N] FILE... < STIMULUS > WAVEFORM
 
 FILE, 1 to 16 of them, make a module with one clocked block. STIMULUS is read
 from standard input: line 1 `stimulus 1`, line 2 `inputs` and the data inputs in
@@ -18,9 +18,11 @@ Where a `$stop` executes, the waveform of that cycle and the N cycles before it
 The report goes to standard error: the first cycle in which a `$stop` executes,
 where it stands, its message and the window, or that there was no failure.
 
-  dessert sim lag=4 examples/cnt.v < examples/cnt20.stimulus > cnt.vcd
+  ./dessert sim lag=4 examples/cnt.v < examples/cnt20.stimulus > cnt.vcd
 
 Status: 0 no failure, 1 a failure, 2 wrong words, 3 the design is refused,
 4 the stimulus is refused, 5 a file failed, 6 reading failed, 7 writing the
-waveform failed, 8 writing the report failed, 9 no memory.
+waveform failed, 8 writing the report failed, 9 no memory. At 3 the report is
+`design: FILE:LINE: KIND` for the first fault of the text or its tokens, and
+`design: NotYetBuilt` for a text that isn't read yet.
 ";
