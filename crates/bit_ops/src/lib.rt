@@ -3,6 +3,8 @@
 //! Below: `dt_core` (`Bits`). Above: what evaluates expressions, once for constants and in each cycle of a run.
 //! Promise: each call gives the width and the value that `specs/Applied` and `specs/Operators` define on whole numbers: a value is a
 //! number modulo 2^width, a signed one is read in two's complement. No call takes memory.
+//! `laws` says what follows over all widths and values: division is truncated, an extension keeps the number, bits that were put in are
+//! read back and those beside them stay, `concat` and `select` undo each other.
 //! Not said: how long a call takes.
 #![tactic(auto)]
 

@@ -1,12 +1,9 @@
-use Rattle.std.proofs.Common.{◌≡◌, ◌≤◌, ◌<◌, ℕ, ◌+◌, ◌-◌, ◌*◌, ◌^◌, ◌%◌, sym, ◌∙◌, arith, lit<}
-use Rattle.std.proofs.Math.Nat.{pow-le-pow_right}
+use Rattle.std.proofs.Common.{◌≡◌, ◌≤◌, ◌<◌, ℕ, ◌+◌, ◌-◌, ◌*◌, ◌^◌, ◌%◌, sym, ◌∙◌, arith}
 use Rattle.std.proofs.lemmas.Nat.{pow_pos}
+use Rattle.bit_ops.proofs.Residues.{wider}
 use Rattle.bit_ops.proofs.Signs.{sign_bit, kept_unsigned, kept_signed, extended_by_ones}
 use Rattle.bit_ops.proofs.numbers.extend.Goals as goal
 use Rattle.bit_ops.proofs.numbers.extend.Goals.{else-signed-via-then-signed+else-value-from, else-signed-via-else-signed}
-
-wider : (v w : ℕ) → v ≤ w → 2 ^ v ≤ 2 ^ w
-wider v w h = pow-le-pow_right (lit< tt) h
 
 pub overflow_sub-result : goal.overflow_sub-result
 overflow_sub-result c =
