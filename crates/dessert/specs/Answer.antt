@@ -195,6 +195,6 @@ module _ (L : Layers) (content : List ℕ → Option (List ℕ)) (told : Bool) (
   Answers memory =
       IsAllowed × ((Keeps old.out new.out × Keeps old.report new.report)
       ⊎ ((was : Status) × (out : List ℕ) × (report : List ℕ) × Due was out report × AppendsPart old.out new.out out
-          × AppendsPart old.report new.report report))
+      × AppendsPart old.report new.report report))
   Answers status = (out : List ℕ) × (report : List ℕ) × Due status out report × Appends old.out new.out out
       × Appends old.report new.report report

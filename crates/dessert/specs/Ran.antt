@@ -14,14 +14,14 @@ abbrev pub Found : Flat → List (List ℕ) → List ℕ → Option Failure → 
 Found f rows state None = (state ≡ flat_state f rows (length rows)) × ((t : ℕ) → t < length rows → fired_at f rows t ≡ [])
 Found f rows state (Some x) =
     (x.cycle < length rows) × (x.fired ≡ fired_at f rows x.cycle) × (fired_at f rows x.cycle ≢ []) × ((t : ℕ) → t < x.cycle
-        → fired_at f rows t ≡ [])
+    → fired_at f rows t ≡ [])
 
 -- the last of the rows up to the first failure are kept, or of all rows where there was none
 abbrev pub KeepsLast : Flat → List (List ℕ) → ℕ → Window → Option Failure → Type 0
 KeepsLast f rows cycle w None = (cycle ≡ length rows) × Holds f rows w
 KeepsLast f rows cycle w (Some x) =
     (cycle ≤ length rows) × (seen : List (List ℕ)) × (behind : List (List ℕ)) × (rows ≡ seen ++ behind)
-        × (length seen ≡ suc x.cycle) × Holds f seen w
+    × (length seen ≡ suc x.cycle) × Holds f seen w
 
 -- the design has run over these rows, and the last ones are kept
 pub record HasRun (f : Flat) (rows : List (List ℕ)) (p : Progress) : Type 0 where

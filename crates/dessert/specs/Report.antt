@@ -38,7 +38,7 @@ stops_text (s ∷ stops) = stop_text s ++ stops_text stops
 abbrev pub failure_text : ℕ → List Stop → ℕ → List ℕ
 failure_text cycle stops first =
     codes "failure at cycle " ++ (decimal cycle ++ (codes "\n" ++ (stops_text stops ++ (codes "window " ++ (decimal first
-        ++ (codes " to " ++ (decimal cycle ++ codes "\n")))))))
+    ++ (codes " to " ++ (decimal cycle ++ codes "\n")))))))
 
 -- ---- no failure
 

@@ -39,5 +39,5 @@ abbrev pub Delivered : List ℕ → List ℕ → Status → Status → Sinks →
 Delivered out report status result old new =
     (Appends old.out new.out out × Reported report status result old.report new.report old.reports new.reports)
     ⊎ ((Rose old.writes new.writes × AppendsPart old.out new.out out
-        × Wrote write_failed_text writing result old.report new.report old.reports new.reports)
+    × Wrote write_failed_text writing result old.report new.report old.reports new.reports)
     ⊎ ((result ≡ memory) × AppendsPart old.out new.out out × Keeps old.report new.report))
