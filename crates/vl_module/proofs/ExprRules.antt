@@ -75,34 +75,36 @@ module _ (d : ℕ) (low : d ≤ 200) (line : ℕ) (ts us : Tokens) where
 
 -- ---- an operator before its operand
 
-abbrev U : ℕ → Unary × Primary → Tokens → Tokens → Type 0
-U d = pair (operator_at unary_mark d) (primary_at (d + 1))
+-- an operator and its operand
+abbrev unary_parts : ℕ → Unary × Primary → Tokens → Tokens → Type 0
+unary_parts d = pair (operator_at unary_mark d) (primary_at (d + 1))
 
 abbrev unary_tree : Unary × Primary → Expr
 unary_tree x = unary x.0 x.1
 
 module _ (d : ℕ) (ts : Tokens) (op : Unary) (us : Tokens) (h : Took (operator_at unary_mark d) Any op ts us) where
-  unary_out : (u : Expr) (z : Tokens) → expr_at d u ts z → Ends z → (x : Unary × Primary) × (u ≡ unary_tree x) × U d x ts z
+  unary_out : (u : Expr) (z : Tokens) → expr_at d u ts z → Ends z → (x : Unary × Primary) × (u ≡ unary_tree x) × unary_parts d x ts z
   unary_out (primary o) z c g = absurd (no_mark o d d (unary_mark op) ts us z h.here c)
   unary_out (unary p o) z c g = ((p, o), refl, c)
   unary_out (binary o p b) z c g = absurd (no_mark o d d (unary_mark op) ts us c.0 h.here c.1)
 
   pub unary_took : (a : Primary) (rest : Tokens) → Took (primary_at (d + 1)) Any a us rest → Took (expr_at d) Ends (unary op a) ts rest
   unary_took a rest p =
-      took_as (U d) (expr_at d) Ends unary_tree ts unary_out (λ x z c. c) (op, a) rest (took_less (U d) Ends ts (op, a) rest
+      took_as (unary_parts d) (expr_at d) Ends unary_tree ts unary_out (λ x z c. c) (op, a) rest (took_less (unary_parts d) Ends ts (op, a) rest
       (took_pair (operator_at unary_mark d) (primary_at (d + 1)) ts op us h a rest p))
 
   pub unary_none : NoTree (primary_at (d + 1)) Any us → NoTree (expr_at d) Ends ts
-  unary_none n = no_as (U d) (expr_at d) Ends unary_tree ts unary_out (no_less (U d) Ends ts (no_pair_2 (operator_at unary_mark d) (primary_at (d + 1)) ts op us h n))
+  unary_none n = no_as (unary_parts d) (expr_at d) Ends unary_tree ts unary_out (no_less (unary_parts d) Ends ts (no_pair_2 (operator_at unary_mark d) (primary_at (d + 1)) ts op us h n))
 
 -- ---- what begins with an operand
 
 -- an operator and its right operand
-abbrev R : ℕ → Binary × Primary → Tokens → Tokens → Type 0
-R d = pair (operator_at binary_mark d) (primary_at d)
+abbrev right_parts : ℕ → Binary × Primary → Tokens → Tokens → Type 0
+right_parts d = pair (operator_at binary_mark d) (primary_at d)
 
-abbrev B : ℕ → Primary × (Binary × Primary) → Tokens → Tokens → Type 0
-B d = pair (primary_at d) (R d)
+-- the left operand, and those
+abbrev binary_parts : ℕ → Primary × (Binary × Primary) → Tokens → Tokens → Type 0
+binary_parts d = pair (primary_at d) (right_parts d)
 
 abbrev binary_tree : Primary × (Binary × Primary) → Expr
 binary_tree x = binary x.0 x.1.0 x.1.1
@@ -115,7 +117,7 @@ module _ (d : ℕ) (ts : Tokens) (n : NoTree (operator_at unary_mark d) Any ts) 
 
   module _ (a : Primary) (us : Tokens) (p : Took (primary_at d) Any a ts us) where
     -- an operator comes at `us` in each tree that has one
-    moved : (o : Primary) (op : Binary) (b : Primary) (z : Tokens) → B d (o, (op, b)) ts z → (w : Tokens) × mark d (binary_mark op) us w
+    moved : (o : Primary) (op : Binary) (b : Primary) (z : Tokens) → binary_parts d (o, (op, b)) ts z → (w : Tokens) × mark d (binary_mark op) us w
     moved o op b z c = (c.2.0, subst (λ w. mark d (binary_mark op) w c.2.0) (p.only o c.0 c.1 tt).1 c.2.1)
 
     module _ (f : NoTree (operator_at binary_mark d) Any us) where
@@ -128,20 +130,20 @@ module _ (d : ℕ) (ts : Tokens) (n : NoTree (operator_at unary_mark d) Any ts) 
       primary_took = record { here = p.here; only = primary_only }
 
     module _ (op : Binary) (vs : Tokens) (h : Took (operator_at binary_mark d) Any op us vs) where
-      binary_out : (u : Expr) (z : Tokens) → expr_at d u ts z → Ends z → (x : Primary × (Binary × Primary)) × (u ≡ binary_tree x) × B d x ts z
+      binary_out : (u : Expr) (z : Tokens) → expr_at d u ts z → Ends z → (x : Primary × (Binary × Primary)) × (u ≡ binary_tree x) × binary_parts d x ts z
       binary_out (primary o) z c g = absurd ((subst Ends (h.here.1.1) (subst Ends (p.only o z c tt).1 g)) op refl)
       binary_out (unary q o) z c g = absurd (n q c.0 c.1 tt)
       binary_out (binary o q b) z c g = ((o, (q, b)), refl, c)
 
       pub binary_took : (b : Primary) (rest : Tokens) → Took (primary_at d) Any b vs rest → Took (expr_at d) Ends (binary a op b) ts rest
       binary_took b rest q =
-          took_as (B d) (expr_at d) Ends binary_tree ts binary_out (λ x z c. c) (a, (op, b)) rest (took_less (B d) Ends ts (a, (op, b)) rest
-          (took_pair (primary_at d) (R d) ts a us p (op, b) rest (took_pair (operator_at binary_mark d) (primary_at d) us op vs h b rest q)))
+          took_as (binary_parts d) (expr_at d) Ends binary_tree ts binary_out (λ x z c. c) (a, (op, b)) rest (took_less (binary_parts d) Ends ts (a, (op, b)) rest
+          (took_pair (primary_at d) (right_parts d) ts a us p (op, b) rest (took_pair (operator_at binary_mark d) (primary_at d) us op vs h b rest q)))
 
       pub binary_none : NoTree (primary_at d) Any vs → NoTree (expr_at d) Ends ts
       binary_none f =
-          no_as (B d) (expr_at d) Ends binary_tree ts binary_out (no_less (B d) Ends ts
-          (no_pair_2 (primary_at d) (R d) ts a us p (no_pair_2 (operator_at binary_mark d) (primary_at d) us op vs h f)))
+          no_as (binary_parts d) (expr_at d) Ends binary_tree ts binary_out (no_less (binary_parts d) Ends ts
+          (no_pair_2 (primary_at d) (right_parts d) ts a us p (no_pair_2 (operator_at binary_mark d) (primary_at d) us op vs h f)))
 
 -- ---- a condition
 
