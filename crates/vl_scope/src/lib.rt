@@ -1,9 +1,9 @@
 //! Whether a module with one clocked block has a static fault, and the table of its names.
 //!
-//! Below: `vl_tree` (trees), `vl_meaning` (what a fault is, what a name stands for). Above: `vl_proc` finds names in a `Scope`, `vl_front`
-//! refuses a module that is not sound.
-//! Promise: `is_sound` answers exactly `is_sound` of `vl_meaning/specs/Faults`, and each test that it is made of answers its own definition;
-//! `Scope::find` answers exactly `port_place` of `vl_meaning/specs/Objects`.
+//! Below: `vl_tree` (trees), `vl_meaning` (what a fault is, what a name stands for), `flat_ir` (how many arguments a format shows).
+//! Above: `vl_proc` finds names in a `Scope`, `vl_front` refuses a module that is not sound.
+//! Promise: `is_sound` answers exactly `is_sound` of `vl_meaning/specs/Faults`, and each test that it is made of answers its own
+//! definition; `Scope::find` answers exactly `port_place` of `vl_meaning/specs/Objects`.
 //! Not said: which fault a module has, or where; that memory is enough, or the stack: the walks go as deep as the tree does.
 #![tactic(auto)]
 
