@@ -8,7 +8,7 @@ use flat_ir::design::{Action, Deed, Node};
 use std::alloc::Global;
 use std::marker::Model;
 
-/// Nodes of expressions, of which there are fewer than 2^32.
+/// Nodes of expressions, of which there are 2^32 at most.
 #[derive(Drop)]
 pub struct Nodes {
     list: Vec<Node>,
