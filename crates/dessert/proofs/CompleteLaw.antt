@@ -71,20 +71,20 @@ module _ (content : List ℕ → Option (List ℕ)) (words : List (List ℕ)) (o
   no_refusal j files h e l (inr n) = n.0.none w.the_module (is_module j files e l)
 
   -- the stimulus isn't refused
-  no_short : (name : Job) (h bytes : List ℕ) (d : Design) → d.top ≡ w.the_module → Consumes old.left new.left bytes → IsAtEnd new.left → Judges name d bytes (refused true h) → ⊥
-  no_short name h bytes d e c a j =
+  no_short : (job : Job) (h bytes : List ℕ) (d : Design) → d.top ≡ w.the_module → Consumes old.left new.left bytes → IsAtEnd new.left → Judges job d bytes (refused true h) → ⊥
+  no_short job h bytes d e c a j =
       let t = took_whole old.left new.left w.bytes bytes w.left c a in
       j.1 (w.rows, subst (λ (x : Module). IsStimulus (data_inputs x) w.rows bytes) (sym e) (subst (IsStimulus (data_inputs w.the_module) w.rows) (sym t) w.stimulus))
 
-  no_other : (name : Job) (h bytes : List ℕ) (d : Design) → d.top ≡ w.the_module → Consumes old.left new.left bytes → Judges name d bytes (refused false h) → ⊥
-  no_other name h bytes d e c j =
+  no_other : (job : Job) (h bytes : List ℕ) (d : Design) → d.top ≡ w.the_module → Consumes old.left new.left bytes → Judges job d bytes (refused false h) → ⊥
+  no_other job h bytes d e c j =
       let t = took_front old.left new.left w.bytes bytes w.left c in
       j.0 (t.0, w.rows, subst (λ (x : Module). IsStimulus (data_inputs x) w.rows (bytes ++ t.0)) (sym e) (subst (IsStimulus (data_inputs w.the_module) w.rows) t.1 w.stimulus))
 
-  no_input : (h : List ℕ) (short : Bool) (name : Job) (bytes : List ℕ) (d : Design) → d.top ≡ w.the_module → Consumes old.left new.left bytes → (IsTrue short → IsAtEnd new.left)
-      → Judges name d bytes (refused short h) → ⊥
-  no_input h true name bytes d e c a j = no_short name h bytes d e c (a refl) j
-  no_input h false name bytes d e c a j = no_other name h bytes d e c j
+  no_input : (h : List ℕ) (short : Bool) (job : Job) (bytes : List ℕ) (d : Design) → d.top ≡ w.the_module → Consumes old.left new.left bytes → (IsTrue short → IsAtEnd new.left)
+      → Judges job d bytes (refused short h) → ⊥
+  no_input h true job bytes d e c a j = no_short job h bytes d e c (a refl) j
+  no_input h false job bytes d e c a j = no_other job h bytes d e c j
 
   no_file : (before : List (List ℕ)) (name : List ℕ) (after : List (List ℕ)) (job : Job) → words_of words ≡ allowed job → job.files ≡ before ++ name ∷ after → IsLong (content name) 4194304 → ⊥
   no_file before name after job e n l =

@@ -38,7 +38,7 @@ impl Model for Window {
     ghost view = { λ w. record { period = w.period; end = w.end; base = w.base; older = w.older.items; older_count = w.older_count; middle = w.middle; newer = w.newer.items; newer_count = w.newer_count } };
 }
 
-/// Rows that are kept in a row: how many, and their values, a byte each.
+/// Kept rows that follow one another: how many, and their values, a byte each.
 #[derive(Clone, Copy)]
 pub struct Part<'a> {
     pub count: u32,
