@@ -54,18 +54,20 @@ struct Came {
     report: Vec<u8>,
 }
 
+// A copy of the bytes.
 fn bytes_of(alloc: Global, bytes: &[u8]) -> Result<Vec<u8>, Fail> {
     let mut all = Vec::new(alloc);
     all.extend_from_slice(bytes)?;
     Ok(all)
 }
 
-fn one(alloc: Global, n: u32) -> Result<Vec<u32>, Fail> {
-    let mut all = Vec::new(alloc);
-    if n != 0 {
-        all.push(n)?;
+// The calls that fail: this one, from 1, or none for 0.
+fn failing(alloc: Global, call: u32) -> Result<Vec<u32>, Fail> {
+    let mut calls = Vec::new(alloc);
+    if call != 0 {
+        calls.push(call)?;
     }
-    Ok(all)
+    Ok(calls)
 }
 
 // The files of these names with these bytes.
@@ -77,7 +79,7 @@ fn files_of(alloc: Global, contents: &[(&str, &[u8])], load: u32) -> Result<MemF
             Text::of_bytes(bytes_of(alloc, content)?),
         ))?;
     }
-    Ok(MemFiles::new(files, one(alloc, load)?))
+    Ok(MemFiles::new(files, failing(alloc, load)?))
 }
 
 // Asks the top call; its steps count on a ledger of their own.
@@ -90,11 +92,15 @@ fn ask_counted<L: Ledger>(alloc: Global, call: Call, blank: Blank) -> Result<Cam
     requires parts { (blank.parts ≡ L.parts) × (0 < blank.parts) }
 {
     let mut files = files_of(alloc, call.files, call.load)?;
-    let mut source = MemSource::new(bytes_of(alloc, call.stimulus)?, 16, one(alloc, call.read)?);
-    let Ok(mut out) = MemSink::new(alloc, 16384, 16, one(alloc, call.out)?) else {
+    let mut source = MemSource::new(
+        bytes_of(alloc, call.stimulus)?,
+        16,
+        failing(alloc, call.read)?,
+    );
+    let Ok(mut out) = MemSink::new(alloc, 16384, 16, failing(alloc, call.out)?) else {
         return Err("no memory".into());
     };
-    let Ok(mut report) = MemSink::new(alloc, 512, 16, one(alloc, call.report)?) else {
+    let Ok(mut report) = MemSink::new(alloc, 512, 16, failing(alloc, call.report)?) else {
         return Err("no memory".into());
     };
     let mut steps = Steps::<L>::new(blank);

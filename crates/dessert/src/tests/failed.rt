@@ -1,8 +1,51 @@
 //! Calls to the outside that fail, one after another.
 
-use super::{Call, ask, counted, counter_call};
+use super::{COUNTER, Call, ask, counted, counter_call, is_refused};
 use crate::tests::windows::WAVE_4;
 use std::test::*;
+
+// A load that fails isn't tried again, though the next one would succeed; and a file is loaded once.
+#[test]
+fn a_failed_load_is_not_tried_again(rt: HostRuntime) -> Result<(), Fail> {
+    let whole = counted(rt.alloc(), 20)?;
+    let well = counter_call(&whole);
+    let first = Call { load: 1, ..well };
+    assert!(rt; is_refused(rt.alloc(), first, 5, b"file cnt.v: failed\n")?);
+    let came = ask(rt.alloc(), Call { load: 2, ..well })?;
+    assert_eq!(rt; came.status, 1);
+    Ok(())
+}
+
+// Of three files each load fails in turn: that file is told, and where the report fails too, its fault is the answer.
+#[test]
+fn each_load_that_fails_is_told(rt: HostRuntime) -> Result<(), Fail> {
+    let whole = counted(rt.alloc(), 20)?;
+    let well = Call {
+        words: &["sim", "a.v", "b.v", "cnt.v"],
+        files: &[("cnt.v", COUNTER), ("b.v", b""), ("a.v", b"// a\n")],
+        ..counter_call(&whole)
+    };
+    let reports: [(u32, &[u8]); 3] = [
+        (1, b"file a.v: failed\n"),
+        (2, b"file b.v: failed\n"),
+        (3, b"file cnt.v: failed\n"),
+    ];
+    for (load, report) in reports.iter() {
+        let failed = Call {
+            load: *load,
+            ..well
+        };
+        assert!(rt; is_refused(rt.alloc(), failed, 5, report)?, "load {load}");
+        let both = Call {
+            report: 1,
+            ..failed
+        };
+        assert!(rt; is_refused(rt.alloc(), both, 8, b"")?, "load {load}");
+    }
+    let came = ask(rt.alloc(), Call { load: 4, ..well })?;
+    assert_eq!(rt; came.status, 1);
+    Ok(())
+}
 
 // A clean run takes the 105 bytes in seven reads of 16, and learns of the end by an eighth.
 #[test]
