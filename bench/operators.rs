@@ -83,6 +83,21 @@ fn steps(only: Option<Binary>, width: u32) -> Vec<(Binary, u128, u128)> {
     made
 }
 
+// Takes the steps 500 times, and says the sum of their values and the time in ns; ten times over.
+fn time<S>(title: &str, steps: &[S], value: impl Fn(&S) -> u128) {
+    for _ in 0..10 {
+        let start = Instant::now();
+        let mut sum: u128 = 0;
+        for _ in 0..500 {
+            for step in steps {
+                sum = sum.wrapping_add(value(step));
+            }
+        }
+        let time = start.elapsed().as_nanos();
+        println!("{title} {sum} {time}");
+    }
+}
+
 macro_rules! machine {
     ($report:ident, $unsigned:ty, $signed:ty) => {
         fn $report(name: &str, only: Option<Binary>, signed: bool) {
@@ -132,17 +147,8 @@ macro_rules! machine {
                 .into_iter()
                 .map(|(op, a, b)| Step { op, a: a as $unsigned, b: b as $unsigned, signed })
                 .collect();
-            for _ in 0..10 {
-                let start = Instant::now();
-                let mut sum: u128 = 0;
-                for _ in 0..500 {
-                    for step in &steps {
-                        sum = sum.wrapping_add(u128::from(value(step)));
-                    }
-                }
-                let time = start.elapsed().as_nanos();
-                println!("{name} {} {signed} {sum} {time}", <$unsigned>::BITS);
-            }
+            let title = format!("{name} {} {signed}", <$unsigned>::BITS);
+            time(&title, &steps, |step| u128::from(value(step)));
         }
     };
 }
@@ -217,17 +223,8 @@ fn vectors(width: u32, name: &str, only: Option<Binary>, signed: bool) {
         .into_iter()
         .map(|(op, a, b)| VectorStep { op, a: Bits { width, value: a }, b: Bits { width, value: b }, signed })
         .collect();
-    for _ in 0..10 {
-        let start = Instant::now();
-        let mut sum: u128 = 0;
-        for _ in 0..500 {
-            for step in &steps {
-                sum = sum.wrapping_add(binary(step.op, step.a, step.b, step.signed).value);
-            }
-        }
-        let time = start.elapsed().as_nanos();
-        println!("{name} {width} {signed} {sum} {time}");
-    }
+    let title = format!("{name} {width} {signed}");
+    time(&title, &steps, |step| binary(step.op, step.a, step.b, step.signed).value);
 }
 
 fn report_all(report: impl Fn(&str, Option<Binary>, bool)) {
