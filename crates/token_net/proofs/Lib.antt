@@ -1,0 +1,11 @@
+pub mod Places
+pub mod Narrow
+pub mod HalfKeeps
+pub mod PostsKeep
+pub mod PostsEnd
+pub mod NetworkKeeps
+pub mod NeverStuck
+pub mod Falls
+pub mod LeftAt
+pub mod Steps
+mod NetworkExamples

@@ -1,0 +1,10 @@
+pub mod Families
+pub mod Shape
+pub mod Half
+pub mod Posts
+pub mod Network
+pub mod Holds
+pub mod Left
+pub mod End
+pub mod Extension
+pub mod Laws
