@@ -1,7 +1,8 @@
 //! Ground: bit vectors, texts and what is appended to them, rows, places, faults, and the limits of what is read.
 //!
 //! Below: `itoa` (decimal numbers). Above: every crate.
-//! Promise: a `Bits` is a width from 1 to `MAX_WIDTH` and a number below 2^width; a `Text` is its list of bytes, a `Row` its list of bit vectors.
+//! Promise: a `Bits` is a width from 1 to `MAX_WIDTH` and a number below 2^width; a `Text` is its list of bytes, a `Row` its list
+//! of bit vectors.
 //! `append` puts a piece, or a number's decimal digits, after what a text holds.
 //! A row of n values that have b bits together keeps n bytes for their widths and b / 8 bytes, rounded up, for their bits.
 //! Clauses see a row as a list of plain records (`specs/BitVectors`); `specs/Packing` says how they lie in bytes.
