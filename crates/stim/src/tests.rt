@@ -40,7 +40,7 @@ fn design(alloc: Global, names: &[&str]) -> Result<Flat, Fail>
     Ok(draft.close())
 }
 
-// How reading a stimulus went: the digits of its rows, with a line's end behind each row, and why it ended, if it wasn't whole.
+// How reading a stimulus went: the digits of its rows, with a line's end after each row, and why it ended, if it wasn't whole.
 #[derive(Drop)]
 struct Went {
     rows: Vec<u8>,
