@@ -4,10 +4,11 @@ ghost use Rattle.std.specs.Prelude.{◌≡◌, ◌≤◌, ◌<◌, ◌^◌, ◌/
 ghost use Rattle.bit_ops.specs.Operators as ops;
 
 use crate::numbers::{cut, is_negative, turned};
+use dt_core::limits::MAX_WIDTH;
 
 /// a + b modulo 2^width.
 pub fn sum(a: u128, b: u128, width: u32) -> u128
-    requires { (1 ≤ width) × (width ≤ 128) }
+    requires { (1 ≤ width) × (width ≤ MAX_WIDTH) }
     ensures value { result ≡ ops.add width a b }
     ensures fits { result < 2 ^ width }
 {
@@ -16,7 +17,7 @@ pub fn sum(a: u128, b: u128, width: u32) -> u128
 
 /// a - b modulo 2^width.
 pub fn difference(a: u128, b: u128, width: u32) -> u128
-    requires { (1 ≤ width) × (width ≤ 128) }
+    requires { (1 ≤ width) × (width ≤ MAX_WIDTH) }
     ensures value { result ≡ ops.sub width a b }
     ensures fits { result < 2 ^ width }
 {
@@ -25,7 +26,7 @@ pub fn difference(a: u128, b: u128, width: u32) -> u128
 
 /// a * b modulo 2^width.
 pub fn product(a: u128, b: u128, width: u32) -> u128
-    requires { (1 ≤ width) × (width ≤ 128) }
+    requires { (1 ≤ width) × (width ≤ MAX_WIDTH) }
     ensures value { result ≡ ops.mul width a b }
     ensures fits { result < 2 ^ width }
 {
@@ -34,7 +35,7 @@ pub fn product(a: u128, b: u128, width: u32) -> u128
 
 /// -a modulo 2^width.
 pub fn negated(a: u128, width: u32) -> u128
-    requires { (1 ≤ width) × (width ≤ 128) }
+    requires { (1 ≤ width) × (width ≤ MAX_WIDTH) }
     ensures value { result ≡ ops.negate width a }
     ensures fits { result < 2 ^ width }
 {
@@ -43,7 +44,7 @@ pub fn negated(a: u128, width: u32) -> u128
 
 /// The quotient, truncated toward 0; 0 where the divisor is 0.
 pub fn quotient(a: u128, b: u128, width: u32, signed: bool) -> u128
-    requires width { (1 ≤ width) × (width ≤ 128) }
+    requires width { (1 ≤ width) × (width ≤ MAX_WIDTH) }
     requires fits { (a < 2 ^ width) × (b < 2 ^ width) }
     ensures value { result ≡ ops.div signed width a b }
     ensures fits { result < 2 ^ width }
@@ -66,7 +67,7 @@ pub fn quotient(a: u128, b: u128, width: u32, signed: bool) -> u128
 
 /// The remainder, with the sign of the first operand; 0 where the divisor is 0.
 pub fn remainder(a: u128, b: u128, width: u32, signed: bool) -> u128
-    requires width { (1 ≤ width) × (width ≤ 128) }
+    requires width { (1 ≤ width) × (width ≤ MAX_WIDTH) }
     requires fits { (a < 2 ^ width) × (b < 2 ^ width) }
     ensures value { result ≡ ops.rem signed width a b }
     ensures fits { result < 2 ^ width }
@@ -88,7 +89,7 @@ pub fn remainder(a: u128, b: u128, width: u32, signed: bool) -> u128
 
 // The absolute value of what a number stands for.
 fn magnitude(value: u128, width: u32, signed: bool) -> u128
-    requires width { (1 ≤ width) × (width ≤ 128) }
+    requires width { (1 ≤ width) × (width ≤ MAX_WIDTH) }
     requires fits { value < 2 ^ width }
     ensures value { result ≡ unsigned_abs (ops.integer signed width value) }
     ensures fits { result < 2 ^ width }

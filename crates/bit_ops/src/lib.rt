@@ -1,4 +1,4 @@
-//! Operators on bit vectors of 1 to 128 bits, and on numbers of such a width.
+//! Operators on bit vectors of 1 to `MAX_WIDTH` bits, and on numbers of such a width.
 //!
 //! Below: `dt_core` (`Bits`). Above: what evaluates expressions, once for constants and in each cycle of a run.
 //! Promise: each call gives the width and the value that `specs/Applied` and `specs/Operators` define on whole numbers: a value is a
@@ -26,6 +26,7 @@ mod tests;
 use arithmetic::{difference, negated, product, quotient, remainder, sum};
 use compare::{is_at_most, is_less};
 use dt_core::bits::Bits;
+use dt_core::limits::MAX_WIDTH;
 pub use numbers::{add, low};
 use numbers::{cut, turned};
 pub use operator::{Binary, Unary};
@@ -35,7 +36,7 @@ use shifts::{shift_left, shift_right};
 
 /// The vector at a larger width: extended by its sign where it is signed, else by zeros.
 pub fn extend(a: Bits, width: u32, signed: bool) -> Bits
-    requires { (a.width ≤ width) × (width ≤ 128) }
+    requires { (a.width ≤ width) × (width ≤ MAX_WIDTH) }
     ensures width { result.width ≡ width }
     ensures value { result.value ≡ ops.extend signed a.width width a.value }
 {
@@ -107,7 +108,7 @@ pub fn binary(op: Binary, a: Bits, b: Bits, signed: bool) -> Bits
 
 /// The `width` bits from `place` upward, wherever that is; 0 at places outside of the vector.
 pub fn select(a: Bits, place: i64, width: u32) -> Bits
-    requires { (1 ≤ width) × (width ≤ 128) }
+    requires { (1 ≤ width) × (width ≤ MAX_WIDTH) }
     ensures width { result.width ≡ width }
     ensures value { result.value ≡ ops.select place width a.value }
 {
@@ -128,7 +129,7 @@ pub fn insert(a: Bits, place: i64, part: Bits) -> Bits
 
 /// `high` to the left of `low`.
 pub fn concat(high: Bits, low: Bits) -> Bits
-    requires { high.width + low.width ≤ 128 }
+    requires { high.width + low.width ≤ MAX_WIDTH }
     ensures width { result.width ≡ high.width + low.width }
     ensures value { result.value ≡ ops.concat low.width high.value low.value }
 {

@@ -5,10 +5,11 @@ ghost use Rattle.bit_ops.specs.Operators as ops;
 
 use crate::numbers::{cut, ones};
 use crate::shifts::{left, right};
+use dt_core::limits::MAX_WIDTH;
 
 /// The `width` bits from `place` upward; 0 outside.
 pub fn selected(value: u128, place: i64, width: u32) -> u128
-    requires { (1 ≤ width) × (width ≤ 128) }
+    requires { (1 ≤ width) × (width ≤ MAX_WIDTH) }
     ensures value { result ≡ ops.select place width value }
     ensures fits { result < 2 ^ width }
 {
@@ -22,7 +23,7 @@ pub fn selected(value: u128, place: i64, width: u32) -> u128
 
 /// The value with other bits from `place` upward; what falls outside is lost.
 pub fn inserted(value: u128, width: u32, place: i64, part: u128, count: u32) -> u128
-    requires widths { (1 ≤ width) × (width ≤ 128) × (1 ≤ count) × (count ≤ 128) }
+    requires widths { (1 ≤ width) × (width ≤ MAX_WIDTH) × (1 ≤ count) × (count ≤ MAX_WIDTH) }
     requires fits { (value < 2 ^ width) × (part < 2 ^ count) }
     ensures value { result ≡ ops.insert width place count part value }
     ensures fits { result < 2 ^ width }
@@ -44,7 +45,7 @@ pub fn inserted(value: u128, width: u32, place: i64, part: u128, count: u32) -> 
 
 // The value with the bits of the part from a place within on; those beyond the width are lost.
 fn put(value: u128, width: u32, place: u32, part: u128, count: u32) -> u128
-    requires widths { (place < width) × (width ≤ 128) × (1 ≤ count) × (count ≤ 128) }
+    requires widths { (place < width) × (width ≤ MAX_WIDTH) × (1 ≤ count) × (count ≤ MAX_WIDTH) }
     requires fits { (value < 2 ^ width) × (part < 2 ^ count) }
     ensures value { result ≡ ops.insert_at width place count part value }
     ensures fits { result < 2 ^ width }
@@ -55,7 +56,7 @@ fn put(value: u128, width: u32, place: u32, part: u128, count: u32) -> u128
 
 /// `high` to the left of `low`, which has `width` bits.
 pub fn joined(high: u128, above: u32, low: u128, width: u32) -> u128
-    requires widths { (1 ≤ above) × (1 ≤ width) × (above + width ≤ 128) }
+    requires widths { (1 ≤ above) × (1 ≤ width) × (above + width ≤ MAX_WIDTH) }
     requires fits { (high < 2 ^ above) × (low < 2 ^ width) }
     ensures value { result ≡ ops.concat width high low }
     ensures fits { result < 2 ^ (above + width) }

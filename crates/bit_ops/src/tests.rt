@@ -1,216 +1,181 @@
-//! Operators at fixed values.
+//! Operators as compiled, at the edges of machine numbers: what they give is proved, and worked values are proved of the
+//! definitions.
 
-use crate::{
-    Binary, Unary, add, binary, concat, cut_to, extend, insert, low, numbers, select, unary,
-};
+use crate::{Binary, Unary, binary, insert, select, unary};
 use dt_core::bits::Bits;
 use std::process::Abort;
 
-// The widths at which machine numbers end, with their number of sign bit alone and their greatest number.
-const EDGES: [(u32, u128, u128); 6] = [
-    (1, 1, 1),
-    (63, 0x4000_0000_0000_0000, 0x7fff_ffff_ffff_ffff),
-    (64, 0x8000_0000_0000_0000, 0xffff_ffff_ffff_ffff),
-    (65, 0x1_0000_0000_0000_0000, 0x1_ffff_ffff_ffff_ffff),
-    (
-        127,
-        0x4000_0000_0000_0000_0000_0000_0000_0000,
-        0x7fff_ffff_ffff_ffff_ffff_ffff_ffff_ffff,
-    ),
-    (128, 0x8000_0000_0000_0000_0000_0000_0000_0000, u128::MAX),
+// A width at which machine numbers end, its number of sign bit alone, and its greatest number.
+#[derive(Clone, Copy)]
+struct Edge {
+    width: u32,
+    least: u128,
+    ones: u128,
+}
+
+static EDGES: [Edge; 5] = [
+    Edge {
+        width: 1,
+        least: 1,
+        ones: 1,
+    },
+    Edge {
+        width: 64,
+        least: 0x8000_0000_0000_0000,
+        ones: 0xffff_ffff_ffff_ffff,
+    },
+    Edge {
+        width: 65,
+        least: 0x1_0000_0000_0000_0000,
+        ones: 0x1_ffff_ffff_ffff_ffff,
+    },
+    Edge {
+        width: 127,
+        least: 0x4000_0000_0000_0000_0000_0000_0000_0000,
+        ones: 0x7fff_ffff_ffff_ffff_ffff_ffff_ffff_ffff,
+    },
+    Edge {
+        width: 128,
+        least: 0x8000_0000_0000_0000_0000_0000_0000_0000,
+        ones: u128::MAX,
+    },
+];
+
+// A number at an edge: of a value, or a distance of shift.
+#[derive(Clone, Copy)]
+enum Number {
+    Zero,
+    One,
+    Least,
+    Ones,
+    Top,
+    Width,
+    Far,
+}
+
+use Number::{Far, Least, One, Ones, Top, Width, Zero};
+
+fn number(edge: &Edge, number: Number) -> u128 {
+    match number {
+        Zero => 0,
+        One => 1,
+        Least => edge.least,
+        Ones => edge.ones,
+        Top => u128::from(edge.width).saturating_sub(1),
+        Width => u128::from(edge.width),
+        Far => u128::MAX,
+    }
+}
+
+static OF_TWO: [(Binary, bool, Number, Number, Number); 10] = [
+    (Binary::Div, true, Least, Ones, Least),
+    (Binary::Rem, true, Least, Ones, Zero),
+    (Binary::Div, false, Ones, Ones, One),
+    (Binary::Div, false, Ones, Zero, Zero),
+    (Binary::Add, false, Ones, One, Zero),
+    (Binary::Sub, false, Zero, One, Ones),
+    (Binary::Mul, true, Ones, Ones, One),
+    (Binary::Lt, true, Least, Zero, One),
+    (Binary::Lt, false, Least, Zero, Zero),
+    (Binary::Xnor, false, Least, Least, Ones),
+];
+
+static SHIFTS: [(Binary, bool, Number, Number, Number); 8] = [
+    (Binary::Shl, false, One, Top, Least),
+    (Binary::Shl, false, Ones, Width, Zero),
+    (Binary::Shl, false, Ones, Far, Zero),
+    (Binary::Shr, false, Least, Top, One),
+    (Binary::Shr, false, Ones, Width, Zero),
+    (Binary::Sar, true, Least, Top, Ones),
+    (Binary::Sar, true, Least, Far, Ones),
+    (Binary::Sar, false, Least, Width, Zero),
+];
+
+static OF_ONE: [(Unary, Number, Number); 6] = [
+    (Unary::Minus, Least, Least),
+    (Unary::Minus, Ones, One),
+    (Unary::Not, Zero, Ones),
+    (Unary::And, Ones, One),
+    (Unary::Nor, Least, Zero),
+    (Unary::Xor, Least, One),
 ];
 
 #[test]
-fn numbers_compute_at_a_width(rt: HostRuntime) {
-    assert_eq!(rt; low(0x1f, 4), 15);
-    assert_eq!(rt; add(15, 1, 4), 0);
-    assert_eq!(rt; add(u128::MAX, 1, 128), 0);
-    assert_eq!(rt; numbers::extend(8, 4, 8, true), 0xf8);
-    assert_eq!(rt; numbers::extend(8, 4, 8, false), 8);
-    assert_eq!(rt; numbers::extend(7, 4, 8, true), 7);
-    assert_eq!(rt; numbers::extend(1, 1, 128, true), u128::MAX);
-}
-
-#[test]
-fn operators_on_two_operands_give_the_worked_values(rt: HostRuntime) {
-    for (op, signed, width, a, b, value) in [
-        (Binary::Shl, false, 128, 1, 127, 1 << 127),
-        (Binary::Div, false, 8, 5, 0, 0),
-        (Binary::Rem, false, 8, 5, 0, 0),
-        (Binary::Rem, true, 4, 9, 2, 15),
-        (Binary::Rem, true, 4, 7, 14, 1),
-        (Binary::Div, true, 4, 9, 2, 13),
-        (Binary::Div, false, 4, 9, 2, 4),
-        (Binary::Sar, true, 4, 8, 1, 12),
-        (Binary::Sar, false, 4, 8, 1, 4),
-        (Binary::Shr, true, 4, 8, 1, 4),
-        (Binary::Mul, false, 4, 7, 7, 1),
-        (Binary::Add, false, 4, 9, 9, 2),
-        (Binary::Sub, false, 4, 3, 5, 14),
-        (Binary::Lt, true, 4, 15, 0, 1),
-        (Binary::Lt, false, 4, 15, 0, 0),
-        (Binary::Le, true, 4, 8, 8, 1),
-        (Binary::Gt, true, 4, 0, 15, 1),
-        (Binary::Ge, false, 4, 0, 15, 0),
-        (Binary::Eq, false, 4, 5, 5, 1),
-        (Binary::Ne, false, 4, 5, 5, 0),
-        (Binary::And, false, 4, 12, 10, 8),
-        (Binary::Or, false, 4, 12, 10, 14),
-        (Binary::Xor, false, 4, 12, 10, 6),
-        (Binary::Xnor, false, 4, 12, 10, 9),
-        (Binary::LogicAnd, false, 4, 2, 1, 1),
-        (Binary::LogicAnd, false, 4, 2, 0, 0),
-        (Binary::LogicOr, false, 4, 0, 8, 1),
-        (Binary::LogicOr, false, 4, 0, 0, 0),
-    ] {
-        assert_eq!(rt;
-            of_two(op, signed, width, a, b),
-            Some(value),
-            "{op:?} {signed} {width} {a} {b}"
-        );
-    }
-}
-
-#[test]
-fn operators_on_one_operand_give_the_worked_values(rt: HostRuntime) {
-    for (op, width, a, value) in [
-        (Unary::Plus, 4, 5, 5),
-        (Unary::Minus, 4, 5, 11),
-        (Unary::Minus, 4, 8, 8),
-        (Unary::Not, 4, 5, 10),
-        (Unary::LogicNot, 4, 5, 0),
-        (Unary::LogicNot, 4, 0, 1),
-        (Unary::And, 4, 15, 1),
-        (Unary::And, 4, 14, 0),
-        (Unary::Nand, 4, 14, 1),
-        (Unary::Or, 4, 8, 1),
-        (Unary::Nor, 4, 0, 1),
-        (Unary::Xor, 4, 7, 1),
-        (Unary::Xor, 128, u128::MAX, 0),
-        (Unary::Xnor, 4, 7, 0),
-    ] {
-        assert_eq!(rt; of_one(op, width, a), Some(value), "{op:?} {width} {a}");
-    }
-}
-
-#[test]
 fn operators_hold_at_the_edges_of_machine_numbers(rt: HostRuntime) {
-    for (width, least, ones) in EDGES {
-        edges_of_two(&rt, width, least, ones);
-        edges_of_one(&rt, width, least, ones);
+    for edge in &EDGES {
+        two_operands(&rt, edge);
+        shifts(&rt, edge);
+        one_operand(&rt, edge);
     }
 }
 
-fn edges_of_two(rt: &impl Abort, width: u32, least: u128, ones: u128) {
-    let (top, past) = (u128::from(width.saturating_sub(1)), u128::from(width));
-    for (op, signed, a, b, value) in [
-        (Binary::Div, true, least, ones, least),
-        (Binary::Rem, true, least, ones, 0),
-        (Binary::Div, false, ones, ones, 1),
-        (Binary::Add, false, ones, 1, 0),
-        (Binary::Sub, false, 0, 1, ones),
-        (Binary::Mul, true, ones, ones, 1),
-        (Binary::Lt, true, least, 0, 1),
-        (Binary::Lt, false, least, 0, 0),
-        (Binary::Ge, true, 0, ones, 1),
-        (Binary::Xnor, false, least, least, ones),
-    ] {
+fn two_operands(rt: &impl Abort, edge: &Edge) {
+    for (op, signed, a, b, value) in &OF_TWO {
+        let got = of_two(*op, *signed, edge.width, number(edge, *a), number(edge, *b));
         assert_eq!(rt;
-            of_two(op, signed, width, a, b),
-            Some(value),
-            "{op:?} {signed} {width} {a} {b}"
-        );
-    }
-    for (op, signed, a, distance, value) in [
-        (Binary::Shl, false, 1, top, least),
-        (Binary::Shl, false, ones, past, 0),
-        (Binary::Shl, false, ones, u128::MAX, 0),
-        (Binary::Shr, false, least, top, 1),
-        (Binary::Shr, false, ones, past, 0),
-        (Binary::Shr, false, ones, 1 << 64, 0),
-        (Binary::Sar, true, least, top, ones),
-        (Binary::Sar, true, least, past, ones),
-        (Binary::Sar, true, least, u128::MAX, ones),
-        (Binary::Sar, false, least, past, 0),
-    ] {
-        assert_eq!(rt;
-            moved(op, signed, width, a, distance),
-            Some(value),
-            "{op:?} {signed} {width} {a} {distance}"
+            got,
+            Some(number(edge, *value)),
+            "{op:?} {signed} {}",
+            edge.width
         );
     }
 }
 
-fn edges_of_one(rt: &impl Abort, width: u32, least: u128, ones: u128) {
-    for (op, a, value) in [
-        (Unary::Minus, least, least),
-        (Unary::Minus, ones, 1),
-        (Unary::Not, 0, ones),
-        (Unary::Not, ones, 0),
-        (Unary::And, ones, 1),
-        (Unary::Nand, 0, 1),
-        (Unary::Xor, least, 1),
-        (Unary::Or, least, 1),
-    ] {
-        assert_eq!(rt; of_one(op, width, a), Some(value), "{op:?} {width} {a}");
+fn shifts(rt: &impl Abort, edge: &Edge) {
+    for (op, signed, a, b, value) in &SHIFTS {
+        let got = moved(*op, *signed, edge.width, number(edge, *a), number(edge, *b));
+        assert_eq!(rt;
+            got,
+            Some(number(edge, *value)),
+            "{op:?} {signed} {}",
+            edge.width
+        );
     }
 }
+
+fn one_operand(rt: &impl Abort, edge: &Edge) {
+    for (op, a, value) in &OF_ONE {
+        let got = of_one(*op, edge.width, number(edge, *a));
+        assert_eq!(rt; got, Some(number(edge, *value)), "{op:?} {}", edge.width);
+    }
+}
+
+// A width, a value, a place, and what the 128 bits from there are.
+static SELECTED: [(u32, u128, i64, u128); 6] = [
+    (4, 10, 3, 1),
+    (4, 5, -1, 10),
+    (128, u128::MAX, 127, 1),
+    (128, u128::MAX, -127, 1 << 127),
+    (128, u128::MAX, 128, 0),
+    (128, u128::MAX, i64::MIN, 0),
+];
+
+// A width, a value, a place, and what it is with 128 bits of 1 from there.
+static INSERTED: [(u32, u128, i64, u128); 6] = [
+    (4, 1, 3, 9),
+    (128, 0, 1, u128::MAX - 1),
+    (128, 0, -1, u128::MAX >> 1),
+    (128, 7, 128, 7),
+    (128, 7, -128, 7),
+    (128, 7, i64::MAX, 7),
+];
 
 #[test]
-fn places_outside_read_zero(rt: HostRuntime) {
-    for (width, a, place, count, value) in [
-        (4, 10, 3, 2, 1),
-        (4, 5, -1, 2, 2),
-        (4, 15, 40, 4, 0),
-        (4, 15, -40, 4, 0),
-        (128, u128::MAX, 127, 128, 1),
-        (128, u128::MAX, -127, 128, 1 << 127),
-        (128, u128::MAX, 128, 128, 0),
-        (128, u128::MAX, -128, 128, 0),
-        (128, u128::MAX, 8_589_934_592, 1, 0),
-        (128, u128::MAX, -8_589_934_592, 1, 0),
-    ] {
+fn places_may_lie_outside(rt: HostRuntime) {
+    for (width, a, place, value) in &SELECTED {
         assert_eq!(rt;
-            taken(width, a, place, count),
-            Some(value),
-            "{width} {a} {place} {count}"
+            selected(*width, *a, *place),
+            Some(*value),
+            "{width} {a} {place}"
         );
     }
-}
-
-#[test]
-fn writes_outside_are_lost(rt: HostRuntime) {
-    for (width, a, place, count, part, value) in [
-        (8, 0xff, 2, 3, 5, 0xf7),
-        (4, 0, 3, 2, 3, 8),
-        (4, 0, -1, 2, 2, 1),
-        (4, 9, -6, 2, 3, 9),
-        (4, 9, 40, 2, 3, 9),
-        (1, 1, 0, 1, 0, 0),
-        (128, u128::MAX, 127, 1, 0, u128::MAX >> 1),
-        (128, 0, 1, 128, u128::MAX, u128::MAX - 1),
-        (128, 0, -1, 128, u128::MAX, u128::MAX >> 1),
-        (128, 7, 128, 128, u128::MAX, 7),
-        (128, 7, -8_589_934_592, 128, u128::MAX, 7),
-    ] {
+    for (width, a, place, value) in &INSERTED {
         assert_eq!(rt;
-            put(width, a, place, count, part),
-            Some(value),
-            "{width} {a} {place} {count} {part}"
+            inserted(*width, *a, *place),
+            Some(*value),
+            "{width} {a} {place}"
         );
     }
-}
-
-#[test]
-fn vectors_are_joined_cut_and_extended(rt: HostRuntime) {
-    assert_eq!(rt; joined(2, 2, 3, 3), Some((5, 0b10011)));
-    assert_eq!(rt; joined(1, 1, 127, 0), Some((128, 1 << 127)));
-    assert_eq!(rt; cut(8, 0xa5, 4), Some((4, 5)));
-    assert_eq!(rt; cut(128, u128::MAX, 128), Some((128, u128::MAX)));
-    assert_eq!(rt; wider(4, 8, 8, true), Some((8, 0xf8)));
-    assert_eq!(rt; wider(4, 8, 8, false), Some((8, 8)));
-    assert_eq!(rt; wider(1, 1, 128, true), Some((128, u128::MAX)));
-    assert_eq!(rt; wider(128, 5, 128, true), Some((128, 5)));
 }
 
 fn of_two(op: Binary, signed: bool, width: u32, a: u128, b: u128) -> Option<u128> {
@@ -233,44 +198,11 @@ fn of_one(op: Unary, width: u32, a: u128) -> Option<u128> {
     Some(unary(op, Bits::new(width, a)?).value())
 }
 
-fn taken(width: u32, a: u128, place: i64, count: u32) -> Option<u128> {
-    let a = Bits::new(width, a)?;
-    if count < 1 || count > 128 {
-        return None;
-    }
-    Some(select(a, place, count).value())
+fn selected(width: u32, a: u128, place: i64) -> Option<u128> {
+    Some(select(Bits::new(width, a)?, place, 128).value())
 }
 
-fn put(width: u32, a: u128, place: i64, count: u32, part: u128) -> Option<u128> {
-    let a = Bits::new(width, a)?;
-    let part = Bits::new(count, part)?;
-    Some(insert(a, place, part).value())
-}
-
-fn joined(above: u32, high: u128, below: u32, low: u128) -> Option<(u32, u128)> {
-    let high = Bits::new(above, high)?;
-    let low = Bits::new(below, low)?;
-    if above > 128 - below {
-        return None;
-    }
-    let both = concat(high, low);
-    Some((both.width(), both.value()))
-}
-
-fn cut(width: u32, a: u128, to: u32) -> Option<(u32, u128)> {
-    let a = Bits::new(width, a)?;
-    if to < 1 || to > width {
-        return None;
-    }
-    let part = cut_to(a, to);
-    Some((part.width(), part.value()))
-}
-
-fn wider(width: u32, a: u128, to: u32, signed: bool) -> Option<(u32, u128)> {
-    let a = Bits::new(width, a)?;
-    if to < width || to > 128 {
-        return None;
-    }
-    let whole = extend(a, to, signed);
-    Some((whole.width(), whole.value()))
+fn inserted(width: u32, a: u128, place: i64) -> Option<u128> {
+    let part = Bits::new(128, u128::MAX)?;
+    Some(insert(Bits::new(width, a)?, place, part).value())
 }

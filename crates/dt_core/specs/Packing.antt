@@ -1,7 +1,8 @@
--- Bit vectors that stand one behind another in bytes. This project's own.
+-- Bit vectors packed one after another into bytes. This project's own.
 use Rattle.std.specs.Prelude.{ℕ, ◌≡◌, ◌+◌, ◌*◌, ◌/◌, ◌%◌, ◌^◌, ◌<◌, ◌≤◌, List, [], ◌∷◌, length, slice_index}
 use Rattle.std.specs.List.{sum}
 use Rattle.dt_core.specs.BitVectors.{BitVector, vector}
+use Rattle.dt_core.specs.declared.limits.TheConstants.{MAX_WIDTH}
 
 -- bytes as one number, the lowest byte first
 abbrev pub number : List ℕ → ℕ
@@ -19,6 +20,6 @@ put n from width value = (n / 2 ^ (from + width) * 2 ^ width + value) * 2 ^ from
 
 -- bit vectors of these widths stand in the bytes, which are no more than are needed
 pub record Packs (widths bytes : List ℕ) : Type 0 where
-  pub wide : (k : ℕ) → k < length widths → (1 ≤ slice_index widths k) × (slice_index widths k ≤ 128)
+  pub wide : (k : ℕ) → k < length widths → (1 ≤ slice_index widths k) × (slice_index widths k ≤ MAX_WIDTH)
   pub tight : length bytes ≡ (sum widths + 7) / 8
   pub counted : sum widths < 2 ^ 64

@@ -1,8 +1,8 @@
-//! Faults that have no more to tell.
+//! Faults that carry no data.
 
 use std::alloc::AllocError;
 
-/// No memory was to be had.
+/// Out of memory.
 #[derive(Clone, Copy, Debug, Drop)]
 pub struct NoMemory;
 

@@ -4,10 +4,11 @@ ghost use Rattle.std.specs.Prelude.{◌≡◌, ◌+◌, ◌*◌, ◌/◌, ◌%�
 ghost use Rattle.dt_core.specs.Packing.{number, put};
 
 use crate::bits::Bits;
+use crate::limits::MAX_WIDTH;
 
 /// The number that `width` bits from bit `from` on are, read a byte at a time.
 pub fn read(bytes: &[u8], from: usize, width: u32) -> u128
-    requires wide { width ≤ 128 }
+    requires wide { width ≤ MAX_WIDTH }
     requires within { from + width ≤ 8 * length bytes.now }
     requires counted { from + width < 2 ^ 64 }
     ensures { result ≡ number bytes.now / 2 ^ from % 2 ^ width }
@@ -64,7 +65,7 @@ fn piece_at(at: usize, most: u32) -> Piece
 
 // The bits of a number from `low` on, of which there are `count`.
 fn field(value: u128, low: u32, count: u32) -> u8
-    requires { (low < 128) × (count ≤ 8) }
+    requires { (low < MAX_WIDTH) × (count ≤ 8) }
     ensures { result ≡ value / 2 ^ low % 2 ^ count }
 {
     ((value >> low) & ((1 << count) - 1)) as u8

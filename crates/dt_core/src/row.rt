@@ -12,7 +12,7 @@ use std::marker::Model;
 
 /// A list of bit vectors, one per data input in the order of the ports.
 ///
-/// It takes a byte per value for its width, and the bits stand one value behind another with none between.
+/// It takes a byte per value for its width, and the bits of the values follow one another without gaps.
 #[derive(Debug, Drop)]
 pub struct Row {
     widths: Vec<u8>,

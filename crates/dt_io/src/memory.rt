@@ -4,9 +4,9 @@ ghost use Rattle.std.specs.Prelude.{◌≡◌, ◌≤◌, ◌<◌, ◌+◌, ◌-
 ghost use Rattle.std.specs.Io.{ReadsAtMost};
 ghost use Rattle.std.specs.Io.KnownBytes.{ReadConsumes};
 ghost use Rattle.dt_core.specs.Causes.{HasCause, WriteAppends, IsNamed, FailsAsNamed, FailsAsNamedOr};
-ghost use Rattle.dt_io.specs.Counts.{Counts, one_more};
-ghost use Rattle.dt_io.specs.Files.{Loads, LoadCounts};
-ghost use Rattle.dt_io.specs.Memory.{Given, Held, Stored, content_of};
+ghost use Rattle.dt_io.specs.Counts.{Counts, LoadCounts, one_more};
+ghost use Rattle.dt_io.specs.Files.{Loads, FailsForNone};
+ghost use Rattle.dt_io.specs.Memory.{Given, Held, Stored, content_of, names_none};
 
 use crate::calls::Calls;
 use crate::outside::{Files, LoadFault, Sink, Source};
@@ -27,13 +27,20 @@ pub struct MemSource {
 impl Model for MemSource {
     ghost Value = { Given };
 
-    ghost view = { λ m. record { left = drop m.at m.bytes.items; piece = m.piece; fails = m.calls.fails.items; calls = m.calls.made; faults = m.calls.faults } };
+    ghost view = { λ m. record {
+      left = drop m.at m.bytes.items;
+      piece = m.piece;
+      fails = m.calls.fails.items;
+      calls = m.calls.made;
+      faults = m.calls.faults;
+    } };
 
     ghost invariant = { λ m. (1 ≤ m.piece) × (m.at ≤ length m.bytes.items) };
 }
 
 impl MemSource {
-    /// All of the bytes are left, and no call was made. A call gives at most `piece` bytes; those fail that `fails` names, from 1.
+    /// All of the bytes are left, and no call was made. A call gives at most `piece` bytes; the calls in `fails`, counted from 1,
+    /// fail.
     pub fn new(bytes: Vec<u8>, piece: u32, fails: Vec<u32>) -> MemSource
         requires { 1 ≤ piece }
         ensures { result ≡ record { left = bytes.items; piece = piece; fails = fails.items; calls = 0; faults = 0 } }
@@ -97,17 +104,31 @@ pub struct MemSink {
 impl Model for MemSink {
     ghost Value = { Held };
 
-    ghost view = { λ m. record { held = take m.len m.buffer.items; room = length m.buffer.items; piece = m.piece; fails = m.calls.fails.items; calls = m.calls.made; faults = m.calls.faults } };
+    ghost view = { λ m. record {
+      held = take m.len m.buffer.items;
+      room = length m.buffer.items;
+      piece = m.piece;
+      fails = m.calls.fails.items;
+      calls = m.calls.made;
+      faults = m.calls.faults;
+    } };
 
     ghost invariant = { λ m. (1 ≤ m.piece) × (m.len ≤ length m.buffer.items) };
 }
 
 impl MemSink {
-    /// Nothing is held, no call was made, and there is memory for `room` bytes. A call appends at most `piece` bytes;
-    /// those fail that `fails` names, from 1, and those with bytes where the room is full.
+    /// Nothing is held, no call was made, and there is memory for `room` bytes. A call appends at most `piece` bytes; the calls in
+    /// `fails`, counted from 1, fail, and so does one with bytes where the room is full.
     pub fn new(alloc: Global, room: u64, piece: u32, fails: Vec<u32>) -> Result<MemSink, NoMemory>
         requires { 1 ≤ piece }
-        ensures { IfOk result (λ m. m ≡ record { held = []; room = room; piece = piece; fails = fails.items; calls = 0; faults = 0 }) }
+        ensures { IfOk result (λ m. m ≡ record {
+          held = [];
+          room = room;
+          piece = piece;
+          fails = fails.items;
+          calls = 0;
+          faults = 0;
+        }) }
     {
         let buffer = vec![in alloc; 0u8; room as usize]?;
         Ok(MemSink {
@@ -144,10 +165,13 @@ impl Sink for MemSink {
         ensures count { IfOk result (λ n. n ≤ length piece.now) }
         ensures some { IfOk result (λ n. 0 < length piece.now → 0 < n) }
         ensures cause { HasCause self.old.faults self.new.faults result }
-        ensures named { FailsAsNamedOr ((0 < length piece.now) × (length self.old.held ≡ self.old.room)) self.old.fails self.old.calls result }
-        ensures size { IfOk result (λ n. n ≡ min (min (length piece.now) (self.old.room - length self.old.held)) self.old.piece) }
+        ensures named { FailsAsNamedOr ((0 < length piece.now) × (length self.old.held ≡ self.old.room))
+            self.old.fails self.old.calls result }
+        ensures size { IfOk result (λ n.
+            n ≡ min (min (length piece.now) (self.old.room - length self.old.held)) self.old.piece) }
         ensures counts { (self.new.calls ≡ one_more self.old.calls) × Counts self.old.faults self.new.faults result }
-        ensures kept { (self.new.fails ≡ self.old.fails) × (self.new.piece ≡ self.old.piece) × (self.new.room ≡ self.old.room) }
+        ensures kept { (self.new.fails ≡ self.old.fails) × (self.new.piece ≡ self.old.piece)
+            × (self.new.room ≡ self.old.room) }
     {
         self.calls.begin()?;
         if !piece.is_empty() && self.len == self.buffer.len() {
@@ -160,7 +184,7 @@ impl Sink for MemSink {
     }
 }
 
-// Copies bytes behind the first ones of a buffer, as many as fit and at most this many.
+// Copies bytes after the first ones of a buffer, as many as fit and at most this many.
 fn append_front(bytes: &[u8], most: usize, buffer: &mut [u8], len: usize) -> usize
     requires within { len ≤ length buffer.old }
     ensures bytes { take (len + result) buffer.new ≡ take len buffer.old ++ take result bytes.now }
@@ -180,12 +204,17 @@ pub struct MemFiles {
 impl Model for MemFiles {
     ghost Value = { Stored };
 
-    ghost view = { λ m. record { files = m.files.items; fails = m.calls.fails.items; calls = m.calls.made; faults = m.calls.faults } };
+    ghost view = { λ m. record {
+      files = m.files.items;
+      fails = m.calls.fails.items;
+      calls = m.calls.made;
+      faults = m.calls.faults;
+    } };
 }
 
 impl MemFiles {
-    /// Pairs of a name and what the file holds, of which the first of a name counts; no call was made. Those calls fail
-    /// that `fails` names, from 1, and those for a file that is not there.
+    /// Pairs of a name and what the file holds, of which the first of a name counts; no call was made. The calls in `fails`,
+    /// counted from 1, fail, and so does one for a file that is not there.
     pub fn new(files: Vec<(Text, Text)>, fails: Vec<u32>) -> MemFiles
         ensures { result ≡ record { files = files.items; fails = fails.items; calls = 0; faults = 0 } }
     {
@@ -206,16 +235,23 @@ impl MemFiles {
 impl Files for MemFiles {
     ghost told = { λ _. true };
 
+    ghost reliable = { λ m. names_none m.fails };
+
     ghost content = { λ m. content_of m.files };
 
     ghost faults = { λ m. m.faults };
 
     fn load(&mut self, name: &str, into: &mut Vec<u8>, most: u64) -> Result<(), LoadFault>
-        ensures loads { Loads true (content_of self.old.files name.now) most into.old.items into.new.items self.old.faults self.new.faults result }
+        ensures loads { Loads true (content_of self.old.files name.now) most into.old.items into.new.items
+            self.old.faults self.new.faults result }
+        ensures blame { FailsForNone (names_none self.old.fails) (content_of self.old.files name.now) result }
         ensures kept { content_of self.new.files ≡ content_of self.old.files }
+        ensures reliable { names_none self.new.fails ≡ names_none self.old.fails }
         ensures later { self.old.faults ≤ self.new.faults }
-        ensures named { (result ≡ Err LoadFault.Failed) ↔ (IsNamed self.old.fails self.old.calls ⊎ (content_of self.old.files name.now ≡ None)) }
-        ensures counts { (self.new.calls ≡ one_more self.old.calls) × LoadCounts true self.old.faults self.new.faults result }
+        ensures named { (result ≡ Err LoadFault.Failed)
+            ↔ (IsNamed self.old.fails self.old.calls ⊎ (content_of self.old.files name.now ≡ None)) }
+        ensures counts { (self.new.calls ≡ one_more self.old.calls)
+            × LoadCounts true self.old.faults self.new.faults result }
         ensures same { (self.new.files ≡ self.old.files) × (self.new.fails ≡ self.old.fails) }
     {
         if let Err(_) = self.calls.begin() {
@@ -231,7 +267,9 @@ impl Files for MemFiles {
 
 // What the first file of a name holds.
 fn find_file<'a>(files: &'a [(Text, Text)], name: &str) -> Option<&'a Text>
-    ensures { MatchOption result (content_of files.now name.now ≡ None) (λ content. content_of files.now name.now ≡ Some content.now) }
+    ensures { MatchOption result
+        (content_of files.now name.now ≡ None)
+        (λ content. content_of files.now name.now ≡ Some content.now) }
 {
     for file in files {
         if file.0.bytes() == name.as_bytes() {

@@ -1,17 +1,17 @@
-//! The traits of the outside, each with a count of faults that never falls.
+//! The traits of the outside, each with a count of faults that never falls, and that stays where a call succeeds.
 
 ghost use Rattle.std.specs.Prelude.{◌≡◌, ◌≤◌, ◌<◌, List, ℕ, Bool, IfOk, OnOk, length};
 ghost use Rattle.std.specs.declared.option.Option.{Option};
 ghost use Rattle.std.specs.Io.{ReadsAtMost};
 ghost use Rattle.std.specs.Io.KnownBytes.{ReadConsumes, Appends};
 ghost use Rattle.dt_core.specs.Causes.{HasCause, WriteAppends, AppendsPart};
-ghost use Rattle.dt_io.specs.Files.{Loads};
+ghost use Rattle.dt_io.specs.Files.{Loads, FailsForNone};
 
 use dt_core::fault::Failed;
 
 /// Bytes that are read once, from the first on.
 pub trait Source {
-    // What is left, where that is told.
+    // What is left, where that is known.
     ghost left: { Self → Option (List ℕ) };
 
     ghost faults: { Self → ℕ };
@@ -24,9 +24,9 @@ pub trait Source {
         ensures cause { HasCause (faults self.old) (faults self.new) result };
 }
 
-/// Bytes that are written behind one another.
+/// Bytes that are written one after another.
 pub trait Sink {
-    // What it holds, where that is told.
+    // What it holds, where that is known.
     ghost held: { Self → Option (List ℕ) };
 
     ghost faults: { Self → ℕ };
@@ -46,14 +46,17 @@ pub enum LoadFault {
     Failed,
     /// The file has more bytes than the limit.
     TooLong,
-    /// No memory was to be had.
+    /// Out of memory.
     Memory,
 }
 
 /// Files by their names.
 pub trait Files {
-    // Whether their contents are told.
+    // Whether their contents are known.
     ghost told: { Self → Bool };
+
+    // Whether every file that is there can be read, so that a failure is the fault of the name.
+    ghost reliable: { Self → Bool };
 
     // What the file of a name holds, if there is one.
     ghost content: { Self → List ℕ → Option (List ℕ) };
@@ -62,9 +65,12 @@ pub trait Files {
 
     /// Appends the whole file, of at most `most` bytes. After a refusal the vector is as before.
     fn load(&mut self, name: &str, into: &mut Vec<u8>, most: u64) -> Result<(), LoadFault>
-        ensures loads { Loads (told self.old) (content self.old name.now) most into.old.items into.new.items (faults self.old) (faults self.new) result }
+        ensures loads { Loads (told self.old) (content self.old name.now) most into.old.items into.new.items
+            (faults self.old) (faults self.new) result }
+        ensures blame { FailsForNone (reliable self.old) (content self.old name.now) result }
         ensures kept { content self.new ≡ content self.old }
         ensures told { told self.new ≡ told self.old }
+        ensures reliable { reliable self.new ≡ reliable self.old }
         ensures later { faults self.old ≤ faults self.new };
 }
 

@@ -1,11 +1,12 @@
 //! The real outside: std's readers, writers and files, each with a count of faults.
 
-ghost use Rattle.std.specs.Prelude.{◌≡◌, ◌≤◌, ◌<◌, IfOk, None, false, length};
+ghost use Rattle.std.specs.Prelude.{◌≡◌, ◌≤◌, ◌<◌, IfOk, None, false, length, take};
 ghost use Rattle.std.specs.Io.{ReadsAtMost};
 ghost use Rattle.std.specs.Io.KnownBytes.{ReadConsumes};
 ghost use Rattle.dt_core.specs.Causes.{HasCause, WriteAppends};
-ghost use Rattle.dt_io.specs.Counts.{Counts};
-ghost use Rattle.dt_io.specs.Files.{Loads, LoadCounts, ReadsWhole, ReadsFile};
+ghost use Rattle.dt_io.specs.Calls.Whole.{ReadsWhole, ReadsFile};
+ghost use Rattle.dt_io.specs.Counts.{Counts, LoadCounts};
+ghost use Rattle.dt_io.specs.Files.{Loads};
 
 use crate::outside::{Files, LoadFault, Sink, Source};
 use dt_core::fault::Failed;
@@ -13,7 +14,7 @@ use std::fs::File;
 use std::io::{Read, Write};
 use std::rt::Files as Host;
 
-/// A reader of std as a source. What is left is told where the reader tells it; standard input tells nothing.
+/// A reader of std as a source. What is left is known where the reader's is; standard input's is not.
 #[derive(Drop)]
 pub struct StdSource<R: Read> {
     inner: R,
@@ -57,7 +58,7 @@ impl<R: Read> Source for StdSource<R> {
     }
 }
 
-/// A writer of std as a sink. What is held is told where the writer tells it; standard output and error tell nothing.
+/// A writer of std as a sink. What it holds is known where the writer's is; that of standard output and error is not.
 #[derive(Drop)]
 pub struct StdSink<W: Write> {
     inner: W,
@@ -109,7 +110,7 @@ impl<W: Write> Sink for StdSink<W> {
     }
 }
 
-/// Files on the disk, by their names from the working directory. Their contents are not told.
+/// Files on the disk, by their names from the working directory. Their contents are not known.
 #[derive(Drop)]
 pub struct DiskFiles<R: Host + Copy> {
     rt: R,
@@ -134,6 +135,8 @@ impl<R: Host + Copy> DiskFiles<R> {
 
 impl<R: Host + Copy> Files for DiskFiles<R> {
     ghost told = { λ _. false };
+
+    ghost reliable = { λ _. false };
 
     ghost content = { λ _ _. None };
 
@@ -160,22 +163,29 @@ impl<R: Host + Copy> Files for DiskFiles<R> {
 
 // Opens a file and appends it, or a part of it.
 fn append_file<R: Host>(rt: &R, name: &str, into: &mut Vec<u8>, most: u64) -> Result<(), LoadFault>
-    ensures { ReadsFile R.File.remaining most into.old.items into.new.items result }
+    ensures reads { ReadsFile R.File.remaining most into.old.items into.new.items result }
+    ensures front { take (length into.old.items) into.new.items ≡ into.old.items }
 {
     match File::open(rt, name) {
-        Ok(mut file) => append_all(&mut file, into, most),
+        Ok(file) => append_all(&mut StdSource::new(file), into, most),
         Err(_) => Err(LoadFault::Failed),
     }
 }
 
-// Appends all that a reader has left, or a part of it.
-fn append_all<F: Read>(file: &mut F, into: &mut Vec<u8>, most: u64) -> Result<(), LoadFault>
-    ensures { ReadsWhole (F.remaining file.old) (F.remaining file.new) most into.old.items into.new.items result }
+// Appends all that a source has left, or a part of it.
+pub(crate) fn append_all<S: Source>(
+    source: &mut S,
+    into: &mut Vec<u8>,
+    most: u64,
+) -> Result<(), LoadFault>
+    ensures reads { ReadsWhole (S.left source.old) (S.left source.new) (S.faults source.old) (S.faults source.new)
+        most into.old.items into.new.items result }
+    ensures front { take (length into.old.items) into.new.items ≡ into.old.items }
 {
     let mut room = most;
     let mut buf = [0u8; 65_536];
     loop {
-        let Ok(count) = file.read(&mut buf) else {
+        let Ok(count) = source.read(&mut buf) else {
             return Err(LoadFault::Failed);
         };
         if count == 0 {

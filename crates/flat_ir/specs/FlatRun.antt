@@ -1,5 +1,6 @@
 -- The run of a numbered design: the values of its nodes in a cycle, its next state, and what fires. This project's own.
 use Rattle.std.specs.Prelude.{◌≡◌, ℕ, zero, suc, ◌<◌, ◌≤◌, ◌==◌, ◌&&◌, Bool, if◌then◌else◌, List, [], ◌∷◌, ◌++◌, length, replicate, slice_index, slice_index_or, slice_set, slice_get, Option, Some, None}
+use Rattle.dt_core.specs.declared.limits.TheConstants.{MAX_WIDTH}
 use Rattle.bit_ops.specs.Operators.{low, add, bit, holds}
 use Rattle.flat_ir.specs.declared.design.Role.{Role}
 use Rattle.flat_ir.specs.declared.design.Role.TheVariants as role
@@ -24,16 +25,16 @@ pub record Flat : Type 0 where
   pub nodes : List Node
   pub actions : List Action
 
--- a node of this number reads lower nodes, and inputs and registers that are there; a width is 1 to 128
+-- a node of this number reads lower nodes, and inputs and registers that are there; a width is 1 to `MAX_WIDTH`
 abbrev pub NodeFits : ℕ → ℕ → ℕ → Node → Type 0
 NodeFits inputs registers k (n.Constant c) = Unit {0}
 NodeFits inputs registers k (n.Input i) = i < inputs
 NodeFits inputs registers k (n.Register r) = r < registers
-NodeFits inputs registers k (n.Sum a b w) = (a < k) × (b < k) × (1 ≤ w) × (w ≤ 128)
+NodeFits inputs registers k (n.Sum a b w) = (a < k) × (b < k) × (1 ≤ w) × (w ≤ MAX_WIDTH)
 NodeFits inputs registers k (n.Equal a b) = (a < k) × (b < k)
 NodeFits inputs registers k (n.Not a) = a < k
 NodeFits inputs registers k (n.And a b) = (a < k) × (b < k)
-NodeFits inputs registers k (n.Cut a w) = (a < k) × (1 ≤ w) × (w ≤ 128)
+NodeFits inputs registers k (n.Cut a w) = (a < k) × (1 ≤ w) × (w ≤ MAX_WIDTH)
 
 -- a deed names registers and nodes that are there
 abbrev pub ShowsFits : ℕ → Option ℕ → Type 0
@@ -51,13 +52,13 @@ RoleFits inputs registers role.Clock = Unit {0}
 RoleFits inputs registers (role.Input i) = i < inputs
 RoleFits inputs registers (role.Register r) = r < registers
 
--- every number that the design holds names something that is there, and each signal has 1 to 128 bits
+-- every number that the design holds names something that is there, and each signal has 1 to `MAX_WIDTH` bits
 pub record IsWellFormed (f : Flat) : Type 0 where
   pub nodes : (k : ℕ) (x : Node) → slice_get f.nodes k ≡ Some x → NodeFits f.inputs (length f.registers) k x
   pub conditions : (k : ℕ) (x : Action) → slice_get f.actions k ≡ Some x → x.condition < length f.nodes
   pub deeds : (k : ℕ) (x : Action) → slice_get f.actions k ≡ Some x → DeedFits (length f.registers) (length f.nodes) x.deed
   pub signals : (k : ℕ) (x : Signal) → slice_get f.signals k ≡ Some x → RoleFits f.inputs (length f.registers) x.role
-  pub widths : (k : ℕ) (x : Signal) → slice_get f.signals k ≡ Some x → (1 ≤ x.width) × (x.width ≤ 128)
+  pub widths : (k : ℕ) (x : Signal) → slice_get f.signals k ≡ Some x → (1 ≤ x.width) × (x.width ≤ MAX_WIDTH)
 
 -- ---- a cycle
 
@@ -84,7 +85,7 @@ flat_values f row state = values_from row state [] f.nodes
 abbrev pub is_done : List ℕ → Action → Bool
 is_done values a = holds (slice_index values a.condition)
 
--- the state behind a deed, and behind all actions: the last write to a register wins
+-- the state after a deed, and after all actions: the last write to a register wins
 abbrev pub after_deed : List ℕ → Deed → List ℕ → List ℕ
 after_deed values (d.Write r a) state = slice_set state r (slice_index values a)
 after_deed values (d.Say format shown) state = state

@@ -41,12 +41,12 @@ items_from r (b ∷ bs) = counted (step r b) (λ q. items_from q bs)
 abbrev pub items : List ℕ → Option ℕ
 items = items_from outside
 
--- the next argument's digits, if there is one, and the text behind them
+-- the next argument's digits, if there is one, and the text after them
 abbrev pub shown : List ℕ → (List ℕ → List ℕ) → List ℕ
 shown [] more = more []
 shown (n ∷ ns) more = decimal n ++ more ns
 
--- what a byte gives, and what stands behind it
+-- what a byte gives, and what follows it
 abbrev pub written : Step → ℕ → List ℕ → (Progress → List ℕ → List ℕ) → List ℕ
 written itself b ns more = b ∷ more outside ns
 written (into r) b ns more = more r ns

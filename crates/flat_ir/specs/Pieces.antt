@@ -1,4 +1,4 @@
--- What a format is (IEEE 1364-2005, clause 17.1.1, cut down): pieces, one behind another. A piece is a byte other than `%`, `%%`, which
+-- What a format is (IEEE 1364-2005, clause 17.1.1, cut down): pieces, one after another. A piece is a byte other than `%`, `%%`, which
 -- is a percent sign, or `%0d` in either case of the letter, which shows the next argument in the fewest decimal digits.
 use Rattle.std.specs.Prelude.{◌≡◌, ◌≢◌, ◌⊎◌, ◌↔◌, ℕ, ◌+◌, List, [], ◌∷◌, ◌++◌, Some, codes, decimal}
 use Rattle.flat_ir.specs.Format.{items, format_text}
@@ -14,7 +14,7 @@ IsSpelled (byte b) bytes = (b ≢ 37) × (bytes ≡ b ∷ [])
 IsSpelled percent_sign bytes = bytes ≡ codes "%%"
 IsSpelled item bytes = (bytes ≡ codes "%0d") ⊎ (bytes ≡ codes "%0D")
 
--- the format is spellings of these pieces, one behind another
+-- the format is spellings of these pieces, one after another
 abbrev pub Spells : List Piece → List ℕ → Type 0
 Spells [] format = format ≡ []
 Spells (p ∷ ps) format = (front : List ℕ) × (rest : List ℕ) × IsSpelled p front × Spells ps rest × (format ≡ front ++ rest)

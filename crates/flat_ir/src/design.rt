@@ -18,7 +18,7 @@ pub enum Role {
     Register(u32),
 }
 
-/// A named signal: its name, its kind, its width of 1 to 128 bits, and what it shows.
+/// A named signal: its name, its kind, its width of 1 to `MAX_WIDTH` bits, and what it shows.
 #[derive(Debug, Drop)]
 pub struct Signal {
     pub name: Text,
@@ -27,7 +27,7 @@ pub struct Signal {
     pub role: Role,
 }
 
-/// A node of an expression, whose value in a cycle is a number below 2^128. It reads nodes of lower numbers alone.
+/// A node of an expression, whose value in a cycle is a number below 2^`MAX_WIDTH`. It reads nodes of lower numbers alone.
 #[derive(Clone, Copy, Debug, PartialEq, Eq)]
 pub enum Node {
     Constant(u128),

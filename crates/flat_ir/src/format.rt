@@ -117,7 +117,7 @@ fn write_argument(into: &mut Vec<u8>, argument: Option<u128>) -> Result<(), NoMe
     }
 }
 
-/// A format is pieces, one behind another: its items are counted exactly where it is spelled of some, and its text is theirs, joined.
+/// A format is pieces, one after another: its items are counted exactly where it is spelled of some, and its text is theirs, joined.
 pub fn format_law()
     ensures items { CountsItems }
     ensures text { JoinsTexts }

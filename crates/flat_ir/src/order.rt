@@ -5,7 +5,7 @@ ghost use Rattle.std.specs.Prelude.{◌≡◌, []};
 use std::alloc::Global;
 use std::marker::Model;
 
-/// A list of all driven parts of a design by number, each behind those that it reads.
+/// A list of all driven parts of a design by number, each after those that it reads.
 #[derive(Debug, Drop)]
 pub struct Order {
     parts: Vec<u32>,

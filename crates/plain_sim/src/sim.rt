@@ -13,6 +13,7 @@ use crate::values::write_values;
 use bit_ops::low;
 use dt_core::bits::Bits;
 use dt_core::fault::NoMemory;
+use dt_core::limits::MAX_WIDTH;
 use flat_ir::design::Role;
 use flat_ir::flat::Flat;
 use flat_ir::order::Order;
@@ -184,7 +185,7 @@ impl<'a> Sim<'a> {
 
 // The low bits of a number.
 fn cut(value: u128, width: u32) -> Bits
-    requires { (1 ≤ width) × (width ≤ 128) }
+    requires { (1 ≤ width) × (width ≤ MAX_WIDTH) }
     ensures width { result.width ≡ width }
     ensures value { result.value ≡ ops.low width value }
 {

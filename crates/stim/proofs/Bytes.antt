@@ -3,7 +3,8 @@ use Rattle.std.proofs.Common.{◌≡◌, ◌≢◌, ℕ, suc, ◌+◌, ◌-◌, 
 use Rattle.std.proofs.lemmas.List.{append_cancel_left, take_more_set, take_all, length-take, length-take-le, length-replicate, take-append-drop}
 use Rattle.std.proofs.lemmas.List.Elements.{All-append, All-replicate}
 use Rattle.flat_ir.specs.Names.{Fit}
-use Rattle.stim.specs.Stimulus.{digit, behind_value, row_text, rows_text, AreRows, most_rows}
+use Rattle.dt_core.specs.declared.limits.TheConstants.{MAX_ROWS}
+use Rattle.stim.specs.Stimulus.{digit, behind_value, row_text, rows_text, AreRows}
 use Rattle.stim.specs.declared.place.Place.{Place}
 use Rattle.stim.specs.declared.place.Place.TheVariants as p
 use Rattle.stim.specs.declared.place.Step.{Step}
@@ -43,7 +44,7 @@ empty (x ∷ xs) e = absurd (omega arith)
 
 -- the byte that begins a text of rows
 begins_row : (n byte : ℕ) (more : List ℕ) (done rest : List (List ℕ)) → AreRows n (done ++ rest) → byte ∷ more ≡ rows_text rest
-    → (length done < most_rows) × (((n ≡ 0) × (byte ≡ 10)) ⊎ ((0 < n) × (v : ℕ) × (v < 2) × (byte ≡ digit v)))
+    → (length done < MAX_ROWS) × (((n ≡ 0) × (byte ≡ 10)) ⊎ ((0 < n) × (v : ℕ) × (v < 2) × (byte ≡ digit v)))
 begins_row n byte more done [] h e = absurd (some_not_none byte more e)
 begins_row n byte more done ([] ∷ rest) h e =
     let r = row_among n done [] rest h in
@@ -57,7 +58,7 @@ begins_row n byte more done ((v ∷ vs) ∷ rest) h e =
 -- the byte at the start of a row
 starts : (header : List ℕ) (n byte : ℕ) (more : List ℕ) (done rows : List (List ℕ)) → AreRows n rows
     → ((header ++ rows_text done) ++ byte ∷ []) ++ more ≡ header ++ rows_text rows
-    → (length done < most_rows) × (((n ≡ 0) × (byte ≡ 10)) ⊎ ((0 < n) × (v : ℕ) × (v < 2) × (byte ≡ digit v)))
+    → (length done < MAX_ROWS) × (((n ≡ 0) × (byte ≡ 10)) ⊎ ((0 < n) × (v : ℕ) × (v < 2) × (byte ≡ digit v)))
 starts header n byte more done rows h e =
     let r = rest_of header done rows (byte ∷ more) (sym (three header (rows_text done) (byte ∷ []) more) ∙ e) in
     begins_row n byte more done r.0 (subst (AreRows n) r.1 h) r.2
@@ -90,7 +91,7 @@ values vs (u ∷ us) n byte more y h e = (u, bit-Fit n vs u us h, head_same _ _ 
 -- ---- refusals
 
 -- the last row was given already
-pub dead_full : (header : List ℕ) (n given byte : ℕ) → given ≡ most_rows → Steps header n given p.Starting byte s.Refused
+pub dead_full : (header : List ℕ) (n given byte : ℕ) → given ≡ MAX_ROWS → Steps header n given p.Starting byte s.Refused
 dead_full header n given byte full done row len size more rows h e =
     let q = starts header n byte more done rows h e in omega (arith, q.0)
 
@@ -115,7 +116,7 @@ dead_space header n given j byte some less other done row len size more rows h e
 
 -- ---- values
 
-tells_first : (header : List ℕ) (n given byte v : ℕ) → 0 < n → given < most_rows → v < 2 → byte ≡ digit v → Tells header n given p.Starting byte 0 v
+tells_first : (header : List ℕ) (n given byte v : ℕ) → 0 < n → given < MAX_ROWS → v < 2 → byte ≡ digit v → Tells header n given p.Starting byte 0 v
 tells_first header n given byte v some few bit is = record {
   bit = bit;
   next = refl;
@@ -126,7 +127,7 @@ tells_first header n given byte v some few bit is = record {
       ∙ sym (append_assoc header (rows_text done) (digit v ∷ [])) ∙ ap (λ b. (header ++ rows_text done) ++ b ∷ []) (sym is);
 }
 
-tells_next : (header : List ℕ) (n given j byte v : ℕ) → 1 ≤ j → j < n → given < most_rows → v < 2 → byte ≡ digit v → Tells header n given (p.Valuing j) byte j v
+tells_next : (header : List ℕ) (n given j byte v : ℕ) → 1 ≤ j → j < n → given < MAX_ROWS → v < 2 → byte ≡ digit v → Tells header n given (p.Valuing j) byte j v
 tells_next header n given j byte v some less few bit is = record {
   bit = bit;
   next = refl;
@@ -141,14 +142,14 @@ tells_next header n given j byte v some less few bit is = record {
       ∙ ap (λ b. (header ++ (rows_text done ++ (row_front (take j row) ++ 32 ∷ []))) ++ b ∷ []) (sym is);
 }
 
-pub starting_told : (header : List ℕ) (n given byte : ℕ) (result : Step) → 0 < n → given < most_rows → IsTold 0 byte result → Steps header n given p.Starting byte result
+pub starting_told : (header : List ℕ) (n given byte : ℕ) (result : Step) → 0 < n → given < MAX_ROWS → IsTold 0 byte result → Steps header n given p.Starting byte result
 starting_told header n given byte (s.Told input v) some few told = subst (λ k. Tells header n given p.Starting byte k v) (sym told.0) (tells_first header n given byte v some few told.1 told.2)
 starting_told header n given byte s.Refused some few told = λ done row len size more rows h e.
     elim (starts header n byte more done rows h e).1 [ inl a ↦ omega (arith, a.0) | inr b ↦ told b.1 b.2 b.3 ]
 starting_told header n given byte (s.Moved next) some few told = absurd told
 starting_told header n given byte s.Ended some few told = absurd told
 
-pub valuing_told : (header : List ℕ) (n given j byte : ℕ) (result : Step) → 1 ≤ j → j < n → given < most_rows → IsTold j byte result → Steps header n given (p.Valuing j) byte result
+pub valuing_told : (header : List ℕ) (n given j byte : ℕ) (result : Step) → 1 ≤ j → j < n → given < MAX_ROWS → IsTold j byte result → Steps header n given (p.Valuing j) byte result
 valuing_told header n given j byte (s.Told input v) some less few told = subst (λ k. Tells header n given (p.Valuing j) byte k v) (sym told.0) (tells_next header n given j byte v some less few told.1 told.2)
 valuing_told header n given j byte s.Refused some less few told = λ done row len size more rows h e.
     let l = length-take-le j row (omega arith) in
@@ -160,7 +161,7 @@ valuing_told header n given j byte s.Ended some less few told = absurd told
 
 -- ---- the end of a row
 
-ends_empty : (header : List ℕ) (n given byte : ℕ) → n ≡ 0 → given < most_rows → byte ≡ 10 → Ends header n given p.Starting byte
+ends_empty : (header : List ℕ) (n given byte : ℕ) → n ≡ 0 → given < MAX_ROWS → byte ≡ 10 → Ends header n given p.Starting byte
 ends_empty header n given byte none few is = record {
   whole = sym none;
   few = few;
@@ -168,7 +169,7 @@ ends_empty header n given byte none few is = record {
       ∙ sym (append_assoc header (rows_text done) (10 ∷ [])) ∙ ap (λ b. (header ++ rows_text done) ++ b ∷ []) (sym is);
 }
 
-ends_row : (header : List ℕ) (n given j byte : ℕ) → 1 ≤ j → j ≡ n → given < most_rows → byte ≡ 10 → Ends header n given (p.Following j) byte
+ends_row : (header : List ℕ) (n given j byte : ℕ) → 1 ≤ j → j ≡ n → given < MAX_ROWS → byte ≡ 10 → Ends header n given (p.Following j) byte
 ends_row header n given j byte some last few is = record {
   whole = last;
   few = few;
@@ -180,14 +181,14 @@ ends_row header n given j byte some last few is = record {
       ∙ ap (λ b. (header ++ (rows_text done ++ row_front (take j row))) ++ b ∷ []) (sym is);
 }
 
-pub starting_ended : (header : List ℕ) (n given byte : ℕ) (result : Step) → n ≡ 0 → given < most_rows → IsEnded byte result
+pub starting_ended : (header : List ℕ) (n given byte : ℕ) (result : Step) → n ≡ 0 → given < MAX_ROWS → IsEnded byte result
     → Steps header n given p.Starting byte result
 starting_ended header n given byte s.Ended none few ended = ends_empty header n given byte none few ended
 starting_ended header n given byte s.Refused none few ended = dead_empty header n given byte none ended
 starting_ended header n given byte (s.Moved next) none few ended = absurd ended
 starting_ended header n given byte (s.Told input v) none few ended = absurd ended
 
-pub following_ended : (header : List ℕ) (n given j byte : ℕ) (result : Step) → 1 ≤ j → j ≡ n → given < most_rows → IsEnded byte result
+pub following_ended : (header : List ℕ) (n given j byte : ℕ) (result : Step) → 1 ≤ j → j ≡ n → given < MAX_ROWS → IsEnded byte result
     → Steps header n given (p.Following j) byte result
 following_ended header n given j byte s.Ended some last few ended = ends_row header n given j byte some last few ended
 following_ended header n given j byte s.Refused some last few ended = dead_end header n given j byte some last ended
@@ -201,7 +202,7 @@ AreRows-nil n = record { few = omega arith; fit = λ t less. absurd (omega arith
 
 -- the first values of a row, filled up
 filled : (header vs zs : List ℕ) (n : ℕ) (done : List (List ℕ)) → 1 ≤ length vs → AreBits vs → AreBits zs → length vs + length zs ≡ n
-    → AreRows n done → length done < most_rows
+    → AreRows n done → length done < MAX_ROWS
     → AreRows n (done ++ (vs ++ zs) ∷ []) × (header ++ (rows_text done ++ (row_front vs ++ behind_value zs)) ≡ header ++ rows_text (done ++ (vs ++ zs) ∷ []))
 filled header vs zs n done some bits zeros size h few = (
   AreRows-push n done (vs ++ zs) h few (Fit-from_bits n (vs ++ zs) (omega (arith, length-append vs zs)) (All-append (λ v. v < 2) vs zs bits zeros)),

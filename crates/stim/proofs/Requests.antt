@@ -57,16 +57,20 @@ answers_of names rows all old new left before now (Ok true) h count size header 
         header = header;
         inputs = size;
         count = length_push rows new.row ∙ ap (λ k. k + 1) count ∙ sym counted.1;
-        bytes = r ∙ ap (λ b. looked_at b (header_text names) (rows ++ new.row ∷ []) ++ new.held) (sym counted.0);
+        bytes = r.0 ∙ ap (λ b. looked_at b (header_text names) (rows ++ new.row ∷ []) ++ new.held) (sym counted.0);
         are_rows = more;
       },
       fit,
+      r.1,
     )
-answers_of names rows all old new left before now (Ok false) h count size header counted row r = (stimulus_of names rows all h r.0, r.1)
+answers_of names rows all old new left before now (Ok false) h count size header counted row r = (stimulus_of names rows all h r.0, r.1, r.2)
 answers_of names rows all old new left before now (Err f.NotBuilt) h count size header counted row r =
-    not_begun names all (subst (λ n. IsDead (header_text names) n all) size r)
+    let front = r.1 in (
+      (not_begun names all (subst (λ n. IsDead (header_text names) n all) size r.0), (front.0, front.1, begins_of names front.0 (subst (λ n. IsOpen (header_text names) n front.0) size front.2))),
+      r.2,
+    )
 answers_of names rows all old new left before now (Err f.Truncated) h count size header counted row r =
-    (r.0, begins_of names all (subst (λ n. IsOpen (header_text names) n all) size r.1), not_whole names all r.2)
+    (r.0, begins_of names all (subst (λ n. IsOpen (header_text names) n all) size r.1), not_whole names all r.2, r.3)
 answers_of names rows all old new left before now (Err f.Read) h count size header counted row r =
     (r.0, begins_of names all (subst (λ n. IsOpen (header_text names) n all) size r.1))
 

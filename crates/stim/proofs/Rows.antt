@@ -4,7 +4,8 @@ use Rattle.std.proofs.Math.Seq.{get_or-append_seam}
 use Rattle.std.proofs.lemmas.List.{length_push}
 use Rattle.std.proofs.lemmas.List.Elements.{All-head, All-tail, All-push, All-from_get_or}
 use Rattle.flat_ir.specs.Names.{Fit}
-use Rattle.stim.specs.Stimulus.{AreRows, most_rows}
+use Rattle.dt_core.specs.declared.limits.TheConstants.{MAX_ROWS}
+use Rattle.stim.specs.Stimulus.{AreRows}
 use Rattle.stim.specs.Place.{AreBits}
 
 pub Fit-from_bits : (n : ℕ) (xs : List ℕ) → length xs ≡ n → AreBits xs → Fit (replicate n 1) xs
@@ -27,13 +28,13 @@ bit-Fit (suc n) (v ∷ vs) u us h = bit-Fit n vs u us h.1
 
 -- a row among others is one of few, and fits
 pub row_among : (n : ℕ) (done : List (List ℕ)) (r : List ℕ) (rest : List (List ℕ)) → AreRows n (done ++ r ∷ rest)
-    → (length done < most_rows) × Fit (replicate n 1) r
+    → (length done < MAX_ROWS) × Fit (replicate n 1) r
 row_among n done r rest h =
     let less : length done < length (done ++ r ∷ rest) = omega (arith, length-append done (r ∷ rest)) in
     (omega (arith, h.few), subst (λ x. Fit (replicate n 1) x) (get_or-append_seam done r rest []) (h.fit (length done) less))
 
 -- one row more
-pub AreRows-push : (n : ℕ) (done : List (List ℕ)) (r : List ℕ) → AreRows n done → length done < most_rows → Fit (replicate n 1) r
+pub AreRows-push : (n : ℕ) (done : List (List ℕ)) (r : List ℕ) → AreRows n done → length done < MAX_ROWS → Fit (replicate n 1) r
     → AreRows n (done ++ r ∷ [])
 AreRows-push n done r h few fit = record {
   few = omega (arith, length_push done r);

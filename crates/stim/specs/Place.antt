@@ -4,7 +4,8 @@ use Rattle.stim.specs.declared.place.Place.{Place}
 use Rattle.stim.specs.declared.place.Place.TheVariants as p
 use Rattle.stim.specs.declared.place.Step.{Step}
 use Rattle.stim.specs.declared.place.Step.TheVariants as s
-use Rattle.stim.specs.Stimulus.{digit, rows_text, AreRows, most_rows}
+use Rattle.dt_core.specs.declared.limits.TheConstants.{MAX_ROWS}
+use Rattle.stim.specs.Stimulus.{digit, rows_text, AreRows}
 
 -- each number is the value of one bit
 abbrev pub AreBits : List ℕ → Type 0
@@ -12,7 +13,7 @@ AreBits vs = All (λ v. v < 2) vs
 
 -- ---- the text before a place
 
--- values, each behind a space
+-- values, each after a space
 abbrev pub behind_front : List ℕ → List ℕ
 behind_front [] = []
 behind_front (v ∷ vs) = 32 ∷ (digit v ∷ behind_front vs)
@@ -36,12 +37,12 @@ values_before p.Starting = 0
 values_before (p.Valuing j) = j
 values_before (p.Following j) = j
 
--- there is such a place behind this many rows, where the header has this many bytes and there are this many inputs
+-- there is such a place after this many rows, where the header has this many bytes and there are this many inputs
 abbrev pub IsPlace : ℕ → ℕ → ℕ → Place → Type 0
 IsPlace header inputs given (p.Heading k) = (k < header) × (given ≡ 0)
-IsPlace header inputs given p.Starting = given ≤ most_rows
-IsPlace header inputs given (p.Valuing j) = (1 ≤ j) × (j < inputs) × (given < most_rows)
-IsPlace header inputs given (p.Following j) = (1 ≤ j) × (j ≤ inputs) × (given < most_rows)
+IsPlace header inputs given p.Starting = given ≤ MAX_ROWS
+IsPlace header inputs given (p.Valuing j) = (1 ≤ j) × (j < inputs) × (given < MAX_ROWS)
+IsPlace header inputs given (p.Following j) = (1 ≤ j) × (j ≤ inputs) × (given < MAX_ROWS)
 
 -- no more bytes than this come from a place to the end of the row
 abbrev pub most_left : ℕ → ℕ → Place → ℕ
@@ -54,11 +55,13 @@ most_left header inputs (p.Following j) = 2 * (inputs - j) + 1
 
 -- no stimulus with this header and this many inputs begins with the bytes
 abbrev pub IsDead : List ℕ → ℕ → List ℕ → Type 0
-IsDead header inputs bytes = (more : List ℕ) (rows : List (List ℕ)) → AreRows inputs rows → bytes ++ more ≡ header ++ rows_text rows → ⊥
+IsDead header inputs bytes =
+    (more : List ℕ) (rows : List (List ℕ)) → AreRows inputs rows → bytes ++ more ≡ header ++ rows_text rows → ⊥
 
 -- some stimulus with this header and this many inputs begins with the bytes
 abbrev pub IsOpen : List ℕ → ℕ → List ℕ → Type 0
-IsOpen header inputs bytes = (more : List ℕ) × (rows : List (List ℕ)) × AreRows inputs rows × (bytes ++ more ≡ header ++ rows_text rows)
+IsOpen header inputs bytes =
+    (more : List ℕ) × (rows : List (List ℕ)) × AreRows inputs rows × (bytes ++ more ≡ header ++ rows_text rows)
 
 -- the bytes are no stimulus with this header
 abbrev pub IsUnended : List ℕ → List ℕ → Type 0
@@ -66,7 +69,7 @@ IsUnended header bytes = (rows : List (List ℕ)) → bytes ≡ header ++ rows_t
 
 -- ---- what a byte does at a place
 
--- it leads to the next place and tells no value
+-- it leads to the next place and gives no value
 pub record Moves (header : List ℕ) (inputs given : ℕ) (place : Place) (byte : ℕ) (next : Place) : Type 0 where
   pub is_place : IsPlace (length header) inputs given next
   pub nearer : most_left (length header) inputs next < most_left (length header) inputs place
@@ -74,12 +77,12 @@ pub record Moves (header : List ℕ) (inputs given : ℕ) (place : Place) (byte 
   pub text : (done : List (List ℕ)) (row : List ℕ) → length done ≡ given
       → text_before header done row next ≡ text_before header done row place ++ byte ∷ []
 
--- it tells the value of an input, and leads behind that value
+-- it gives the value of an input, and leads to the place after that value
 pub record Tells (header : List ℕ) (inputs given : ℕ) (place : Place) (byte input value : ℕ) : Type 0 where
   pub bit : value < 2
   pub next : input ≡ values_before place
   pub is_input : input < inputs
-  pub few : given < most_rows
+  pub few : given < MAX_ROWS
   pub nearer : most_left (length header) inputs (p.Following (input + 1)) < most_left (length header) inputs place
   pub text : (done : List (List ℕ)) (row : List ℕ) → input < length row
       → text_before header done (slice_set row input value) (p.Following (input + 1)) ≡ text_before header done row place ++ byte ∷ []
@@ -87,7 +90,7 @@ pub record Tells (header : List ℕ) (inputs given : ℕ) (place : Place) (byte 
 -- it ends the row
 pub record Ends (header : List ℕ) (inputs given : ℕ) (place : Place) (byte : ℕ) : Type 0 where
   pub whole : values_before place ≡ inputs
-  pub few : given < most_rows
+  pub few : given < MAX_ROWS
   pub text : (done : List (List ℕ)) (row : List ℕ) → length row ≡ inputs
       → header ++ rows_text (done ++ row ∷ []) ≡ text_before header done row place ++ byte ∷ []
 

@@ -22,12 +22,18 @@ pub record Reads (names : List (List ℕ)) (reader : Reader) (taken : List ℕ) 
   pub bytes : taken ≡ looked_at reader.begun (header_text names) rows ++ reader.held
   pub are_rows : AreRows (length names) rows
 
+-- the first byte with which no stimulus goes on is among those that the reader still holds, so nothing was taken after them
+abbrev pub RefusedInHeld : List (List ℕ) → List ℕ → List ℕ → Type 0
+RefusedInHeld names all held = (Begins names all → ⊥) × ((front : List ℕ) × (all ≡ front ++ held) × Begins names front)
+
 -- the answer to a request for a row, where `all` is what was taken from the source so far, `left` what is left of it, and its
--- count of faults stood at `before` and stands at `now`
-abbrev pub RowIs : List (List ℕ) → List (List ℕ) → List ℕ → Reader → Option (List ℕ) → ℕ → ℕ → Result Bool StimFault → Type 0
+-- count of faults was `before` and is `now`: it rose only where the source failed
+abbrev pub RowIs :
+    List (List ℕ) → List (List ℕ) → List ℕ → Reader → Option (List ℕ) → ℕ → ℕ → Result Bool StimFault → Type 0
 RowIs names rows all reader left before now (Ok true) =
-    Reads names reader all (rows ++ reader.row ∷ []) × Fit (replicate (length names) 1) reader.row
-RowIs names rows all reader left before now (Ok false) = IsStimulus names rows all × IsAtEnd left
-RowIs names rows all reader left before now (Err f.NotBuilt) = Begins names all → ⊥
-RowIs names rows all reader left before now (Err f.Truncated) = IsAtEnd left × Begins names all × (IsWhole names all → ⊥)
+    Reads names reader all (rows ++ reader.row ∷ []) × Fit (replicate (length names) 1) reader.row × (now ≡ before)
+RowIs names rows all reader left before now (Ok false) = IsStimulus names rows all × IsAtEnd left × (now ≡ before)
+RowIs names rows all reader left before now (Err f.NotBuilt) = RefusedInHeld names all reader.held × (now ≡ before)
+RowIs names rows all reader left before now (Err f.Truncated) =
+    IsAtEnd left × Begins names all × (IsWhole names all → ⊥) × (now ≡ before)
 RowIs names rows all reader left before now (Err f.Read) = Rose before now × Begins names all

@@ -3,13 +3,14 @@ use Rattle.std.specs.Prelude.{◌≡◌, ℕ, ◌+◌, ◌<◌, ◌≤◌, List,
 use Rattle.stim.specs.declared.place.Place.{Place}
 use Rattle.stim.specs.declared.scan.Scan.{Scan}
 use Rattle.stim.specs.declared.scan.Scan.TheVariants as s
-use Rattle.stim.specs.Stimulus.{rows_text, most_rows}
+use Rattle.dt_core.specs.declared.limits.TheConstants.{MAX_ROWS}
+use Rattle.stim.specs.Stimulus.{rows_text}
 use Rattle.stim.specs.Place.{AreBits, text_before, values_before, IsPlace, most_left, IsDead}
 
 -- the row ends with the last of the first `used` bytes
 pub record RowEnds (header : List ℕ) (given : ℕ) (start : Place) (old new bytes : List ℕ) (used : ℕ) : Type 0 where
   pub within : used ≤ length bytes
-  pub few : given < most_rows
+  pub few : given < MAX_ROWS
   pub bits : AreBits new
   pub text : (done : List (List ℕ)) → length done ≡ given
       → header ++ rows_text (done ++ new ∷ []) ≡ text_before header done old start ++ take used bytes
@@ -25,5 +26,6 @@ pub record GoesOn (header : List ℕ) (given : ℕ) (start : Place) (old new byt
 abbrev pub Scans : List ℕ → ℕ → Place → List ℕ → List ℕ → List ℕ → Scan → Type 0
 Scans header given start old new bytes (s.Ended used) = RowEnds header given start old new bytes used
 Scans header given start old new bytes s.Refused =
-    (done : List (List ℕ)) → length done ≡ given → IsDead header (length old) (text_before header done old start ++ bytes)
+    (done : List (List ℕ)) → length done ≡ given
+    → IsDead header (length old) (text_before header done old start ++ bytes)
 Scans header given start old new bytes (s.Open place) = GoesOn header given start old new bytes place

@@ -2,9 +2,10 @@
 -- Line 1 is `stimulus 1`, line 2 `inputs` and the names in order of the ports, and each further line is a row: one digit for each
 -- input, with one space between. Each line ends with LF, and there is no CR.
 use Rattle.std.specs.Prelude.{◌≡◌, ℕ, ◌+◌, ◌<◌, ◌≤◌, List, [], ◌∷◌, ◌++◌, length, codes, replicate, slice_index_or}
+use Rattle.dt_core.specs.declared.limits.TheConstants.{MAX_ROWS}
 use Rattle.flat_ir.specs.Names.{Fit}
 
--- the names, each behind a space
+-- the names, each after a space
 abbrev pub spaced : List (List ℕ) → List ℕ
 spaced [] = []
 spaced (x ∷ xs) = 32 ∷ (x ++ spaced xs)
@@ -17,7 +18,7 @@ header_text names = codes "stimulus 1\ninputs" ++ (spaced names ++ codes "\n")
 abbrev pub digit : ℕ → ℕ
 digit v = 48 + v
 
--- what stands in a row behind a value: the further values, each behind a space, and the line's end
+-- what follows a value in a row: the further values, each after a space, and the line's end
 abbrev pub behind_value : List ℕ → List ℕ
 behind_value [] = 10 ∷ []
 behind_value (v ∷ vs) = 32 ∷ (digit v ∷ behind_value vs)
@@ -31,13 +32,9 @@ abbrev pub rows_text : List (List ℕ) → List ℕ
 rows_text [] = []
 rows_text (r ∷ rs) = row_text r ++ rows_text rs
 
--- how many rows there may be
-abbrev pub most_rows : ℕ
-most_rows = 1048576
-
 -- the rows are few enough, and each has a value of one bit for each input
 pub record AreRows (inputs : ℕ) (rows : List (List ℕ)) : Type 0 where
-  pub few : length rows ≤ most_rows
+  pub few : length rows ≤ MAX_ROWS
   pub fit : (t : ℕ) → t < length rows → Fit (replicate inputs 1) (slice_index_or rows t [])
 
 -- the bytes are the text of these rows, which have a value for each name

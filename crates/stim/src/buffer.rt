@@ -2,6 +2,7 @@
 
 ghost use Rattle.std.specs.Prelude.{◌≡◌, ◌≤◌, ◌++◌, [], List, ℕ, IfOk, length, drop};
 ghost use Rattle.std.specs.Io.KnownBytes.{Consumes};
+ghost use Rattle.dt_core.specs.Causes.{HasCause};
 ghost use Rattle.stim.specs.Row.{Fills};
 
 use dt_core::fault::{Failed, NoMemory};
@@ -66,9 +67,10 @@ impl Buffer {
 
     /// Takes bytes from the source where it holds none: whether it holds one then, which is false at the source's end.
     pub fn fill<S: Source>(&mut self, source: &mut S) -> Result<bool, Failed>
-        ensures taken { (more : List ℕ) × Consumes (S.left source.old) (S.left source.new) more × (self.new ≡ self.old ++ more) }
-        ensures fills { Fills self.new (S.left source.new) (S.faults source.old) (S.faults source.new) result }
-        ensures later { S.faults source.old ≤ S.faults source.new }
+        ensures taken { (more : List ℕ) × Consumes (S.left source.old) (S.left source.new) more
+            × (self.new ≡ self.old ++ more) }
+        ensures fills { Fills self.new (S.left source.new) result }
+        ensures cause { HasCause (S.faults source.old) (S.faults source.new) result }
     {
         if self.at < self.end {
             return Ok(true);

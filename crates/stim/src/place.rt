@@ -8,13 +8,13 @@ use dt_core::limits::MAX_ROWS;
 /// A place in the text.
 #[derive(Clone, Copy)]
 pub(crate) enum Place {
-    /// In lines 1 and 2, behind so many of their bytes.
+    /// In lines 1 and 2, after this many of their bytes.
     Heading(usize),
     /// At the start of a row.
     Starting,
-    /// Behind so many values of a row and a space: a value must come.
+    /// After this many values of a row and a space: a value must come.
     Valuing(usize),
-    /// Right behind so many values of a row, one at least.
+    /// Right after this many values of a row, at least one.
     Following(usize),
 }
 
@@ -23,7 +23,7 @@ pub(crate) enum Place {
 pub(crate) enum Step {
     /// It leads to the next place.
     Moved(Place),
-    /// It tells the value of an input, by its number from 0.
+    /// It gives the value of an input, by its number from 0.
     Told(usize, u128),
     /// It ends the row.
     Ended,
@@ -31,7 +31,7 @@ pub(crate) enum Step {
     Refused,
 }
 
-/// What a byte does at a place behind `given` rows.
+/// What a byte does at a place after `given` rows.
 pub(crate) fn step_at(header: &[u8], inputs: usize, given: u32, place: Place, byte: u8) -> Step
     requires { IsPlace (length header.now) inputs given place }
     ensures { Steps header.now inputs given place byte result }

@@ -48,7 +48,14 @@ impl Model for StimReader {
 
     ghost Value = { Reader };
 
-    ghost view = { λ r. record { header = r.header.items; begun = r.begun; given = r.given; row = r.row.items; held = r.buffer; live = r.live } };
+    ghost view = { λ r. record {
+      header = r.header.items;
+      begun = r.begun;
+      given = r.given;
+      row = r.row.items;
+      held = r.buffer;
+      live = r.live;
+    } };
 
     ghost invariant = { λ r. IsPlace (length r.header.items) (length r.row.items) r.given (start_place r.begun) };
 }
@@ -83,7 +90,8 @@ impl StimReader {
         requires { IsTrue self.old.live }
         ensures answer { (names rows : List (List ℕ)) (taken : List ℕ) → Reads names self.old taken rows
             → (more : List ℕ) × Consumes (S.left source.old) (S.left source.new) more
-            × RowIs names rows (taken ++ more) self.new (S.left source.new) (S.faults source.old) (S.faults source.new) result }
+            × RowIs names rows (taken ++ more) self.new (S.left source.new)
+            (S.faults source.old) (S.faults source.new) result }
         ensures live { IsTrue self.new.live ↔ (result ≡ Ok true) }
         ensures later { S.faults source.old ≤ S.faults source.new }
     {
@@ -131,7 +139,7 @@ fn start_of(begun: bool) -> Place
     }
 }
 
-// Reads a row behind `given` ones. Each turn goes through one byte at least.
+// Reads a row after `given` ones. Each turn goes through one byte at least.
 fn read_row<S: Source>(
     header: &[u8],
     given: u32,
@@ -144,7 +152,8 @@ fn read_row<S: Source>(
     requires bits { AreBits (take (values_before start) row.old) }
     ensures answer { (done : List (List ℕ)) → length done ≡ given → AreRows (length row.old) done
         → (more : List ℕ) × Consumes (S.left source.old) (S.left source.new) more
-        × RowAnswers header.now done row.new buffer.new (text_before header.now done row.old start ++ (buffer.old ++ more)) (S.left source.new) (S.faults source.old) (S.faults source.new) result }
+        × RowAnswers header.now done row.new buffer.new (text_before header.now done row.old start ++ (buffer.old ++ more))
+        (S.left source.new) (S.faults source.old) (S.faults source.new) result }
     ensures row { IsRow given row.new result }
     ensures later { S.faults source.old ≤ S.faults source.new }
 {

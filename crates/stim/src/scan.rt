@@ -13,7 +13,7 @@ pub(crate) enum Scan {
     Ended(usize),
     /// At a byte with which no stimulus goes on.
     Refused,
-    /// Behind all bytes, at a place where the row goes on.
+    /// After all bytes, at a place where the row goes on.
     Open(Place),
 }
 

@@ -1,6 +1,7 @@
-//! Stimuli in memory, whole, cut, refused, in pieces, and from a source that fails.
+//! What no clause says: that rows are given before a bad one, and that no read is made that is not needed. The source fails in the
+//! read that is one too many.
 
-ghost use Rattle.std.specs.Prelude.{◌≤◌, length};
+ghost use Rattle.std.specs.Prelude.{◌≡◌, ◌≤◌, IfOk};
 
 use crate::reader::{StimFault, StimReader};
 use dt_core::text::Text;
@@ -10,29 +11,24 @@ use flat_ir::flat::{Flat, FlatDraft};
 use std::alloc::Global;
 use std::test::*;
 
-// A design with a clock and data inputs of these names.
-fn design(alloc: Global, names: &[&str]) -> Result<Flat, Fail>
-    requires { length names.now ≤ 1024 }
+// A data input of one bit.
+fn input(alloc: Global, name: &[u8], number: u32) -> Result<Signal, Fail>
+    ensures { IfOk result (λ s. (s.role ≡ Role.Input number) × (s.width ≡ 1)) }
 {
-    let mut signals = Vec::new(alloc);
-    signals.push(Signal {
-        name: Text::copied(alloc, b"clk")?,
+    Ok(Signal {
+        name: Text::copied(alloc, name)?,
         kind: SignalKind::Wire,
         width: 1,
-        role: Role::Clock,
-    })?;
-    for (i, name) in names.iter().enumerate() {
-        signals.push(Signal {
-            name: Text::copied(alloc, name.as_bytes())?,
-            kind: SignalKind::Wire,
-            width: 1,
-            role: Role::Input(i as u32),
-        })?;
-    }
+        role: Role::Input(number),
+    })
+}
+
+// A design with the data inputs `rst` and `en`.
+fn design(alloc: Global) -> Result<Flat, Fail> {
     let draft = FlatDraft {
         name: Text::copied(alloc, b"counter")?,
-        signals,
-        inputs: names.len() as u32,
+        signals: vec![in alloc; input(alloc, b"rst", 0)?, input(alloc, b"en", 1)?]?,
+        inputs: 2,
         registers: Vec::new(alloc),
         nodes: Vec::new(alloc),
         actions: Vec::new(alloc),
@@ -40,18 +36,67 @@ fn design(alloc: Global, names: &[&str]) -> Result<Flat, Fail>
     Ok(draft.close())
 }
 
-// How reading a stimulus went: the digits of its rows, with a line's end behind each row, and why it ended, if it wasn't whole.
-#[derive(Drop)]
-struct Went {
-    rows: Vec<u8>,
+// A text, the most bytes of a read, the read that fails, the digits of the rows that are given, and why there are no more.
+#[derive(Clone, Copy)]
+struct Case {
+    text: &'static str,
+    piece: u32,
+    fails: u32,
+    rows: &'static str,
     fault: Option<StimFault>,
 }
 
-// Reads the text through calls that give so many bytes at most, of which the one of this number fails.
-fn read_all(alloc: Global, flat: &Flat, text: &[u8], piece: u32, fails: u32) -> Result<Went, Fail>
-    requires { 1 ≤ piece }
+static CASES: [Case; 6] = [
+    Case {
+        text: "stimulus 1\ninputs rst en\n0 1\n1 0\n",
+        piece: 1_000,
+        fails: 3,
+        rows: "01\n10\n",
+        fault: None,
+    },
+    Case {
+        text: "stimulus 1\ninputs rst en\n0 1\n1 0\n",
+        piece: 1,
+        fails: 0,
+        rows: "01\n10\n",
+        fault: None,
+    },
+    Case {
+        text: "stimulus 1\ninputs rst en\n0 1\n0 2\n",
+        piece: 1_000,
+        fails: 2,
+        rows: "01\n",
+        fault: Some(StimFault::NotBuilt),
+    },
+    Case {
+        text: "stimulus 1\ninputs en rst\n",
+        piece: 1_000,
+        fails: 2,
+        rows: "",
+        fault: Some(StimFault::NotBuilt),
+    },
+    Case {
+        text: "stimulus 1\ninputs rst en\n0 1\n0 ",
+        piece: 1_000,
+        fails: 3,
+        rows: "01\n",
+        fault: Some(StimFault::Truncated),
+    },
+    Case {
+        text: "stimulus 1\ninputs rst en\n0 1\n0 ",
+        piece: 1_000,
+        fails: 2,
+        rows: "01\n",
+        fault: Some(StimFault::Read),
+    },
+];
+
+// Reads all rows of a case: their digits, with a line's end after each row, and why there are no more.
+fn read_all(alloc: Global, flat: &Flat, case: &Case) -> Result<(Vec<u8>, Option<StimFault>), Fail>
+    requires { 1 ≤ case.now.piece }
 {
-    let mut source = MemSource::new(text.to_vec(alloc)?, piece, [fails].to_vec(alloc)?);
+    let text = case.text.as_bytes().to_vec(alloc)?;
+    let mut source = MemSource::new(text, case.piece, [case.fails].to_vec(alloc)?);
     let mut reader = StimReader::new(alloc, flat)?;
     let mut rows = Vec::new(alloc);
     let mut fault = None;
@@ -65,7 +110,7 @@ fn read_all(alloc: Global, flat: &Flat, text: &[u8], piece: u32, fails: u32) -> 
             Err(why) => fault = Some(why),
         }
     }
-    Ok(Went { rows, fault })
+    Ok((rows, fault))
 }
 
 // Appends the digits of a row and a line's end.
@@ -77,85 +122,15 @@ fn push_row(rows: &mut Vec<u8>, row: &[u128]) -> Result<(), Fail> {
     Ok(())
 }
 
-const PIECES: [u32; 3] = [1, 16, 1_000_000];
-
 #[test]
-fn a_stimulus_is_read_or_refused(rt: HostRuntime) -> Result<(), Fail> {
+fn no_read_is_made_that_is_not_needed(rt: HostRuntime) -> Result<(), Fail> {
     let alloc: Global = rt.alloc();
-    let none = design(alloc, &[])?;
-    let two = design(alloc, &["rst", "en"])?;
-    let (bad, cut, read) = (
-        Some(StimFault::NotBuilt),
-        Some(StimFault::Truncated),
-        Some(StimFault::Read),
-    );
-    for (flat, text, fails, rows, fault) in [
-        (&two, "stimulus 1\ninputs rst en\n", 0, "", None),
-        (&two, "stimulus 1\ninputs rst en\n0 1\n", 0, "01\n", None),
-        (
-            &two,
-            "stimulus 1\ninputs rst en\n0 1\n1 0\n",
-            0,
-            "01\n10\n",
-            None,
-        ),
-        (
-            &two,
-            "stimulus 1\ninputs rst en\n0 1\n0 2\n",
-            0,
-            "01\n",
-            bad,
-        ),
-        (&two, "stimulus 1\ninputs rst en\n0 g\n", 0, "", bad),
-        (&two, "stimulus 1\ninputs rst en\n0  1\n", 0, "", bad),
-        (&two, "stimulus 1\ninputs rst en\n1\n", 0, "", bad),
-        (&two, "stimulus 1\ninputs rst en\n1 1 1\n", 0, "", bad),
-        (&two, "stimulus 1\ninputs rst en\n0 1\r\n", 0, "", bad),
-        (&two, "stimulus 1\ninputs rst en\n0 1\n\n", 0, "01\n", bad),
-        (&two, "stimulus 1\ninputs rst en\n0 1\nX Y", 0, "01\n", bad),
-        (&two, "stimulus 1\ninputs rst en\r\n", 0, "", bad),
-        (&two, "stimulus 1\ninputs rst en \n", 0, "", bad),
-        (&two, "stimulus 1\ninputs rst\n", 0, "", bad),
-        (&two, "stimulus 1\ninputs en rst\n", 0, "", bad),
-        (&two, "stimulus 1\nINPUTS rst en\n", 0, "", bad),
-        (&two, "stimulus 2\ninputs rst en\n", 0, "", bad),
-        (&two, "stimulus 1\ninputs rst en\n0 ", 0, "", cut),
-        (&two, "stimulus 1\ninputs rst en\n0 ", 2, "", read),
-        (&none, "stimulus 1\ninputs\n", 0, "", None),
-        (&none, "stimulus 1\ninputs\n\n\n", 0, "\n\n", None),
-        (&none, "stimulus 1\ninputs\n0\n", 0, "", bad),
-        (&none, "stimulus 1\ninputs \n", 0, "", bad),
-    ] {
-        for piece in PIECES {
-            assert!(rt; piece >= 1);
-            let went = read_all(alloc, flat, text.as_bytes(), piece, fails)?;
-            assert_eq!(rt; went.rows.as_slice(), rows.as_bytes(), "{text}");
-            assert_eq!(rt; went.fault, fault, "{text}");
-        }
-    }
-    Ok(())
-}
-
-#[test]
-fn a_cut_stimulus_is_whole_behind_a_line_alone(rt: HostRuntime) -> Result<(), Fail> {
-    let alloc: Global = rt.alloc();
-    let two = design(alloc, &["rst", "en"])?;
-    let text = b"stimulus 1\ninputs rst en\n0 1\n1 0\n";
-    for count in 0..text.len() + 1 {
-        let (rows, fault) = match count {
-            0..25 => ("", Some(StimFault::Truncated)),
-            25 => ("", None),
-            26..29 => ("", Some(StimFault::Truncated)),
-            29 => ("01\n", None),
-            30..33 => ("01\n", Some(StimFault::Truncated)),
-            _ => ("01\n10\n", None),
-        };
-        for piece in PIECES {
-            assert!(rt; piece >= 1);
-            let went = read_all(alloc, &two, &text[..count], piece, 0)?;
-            assert_eq!(rt; went.rows.as_slice(), rows.as_bytes(), "{count}");
-            assert_eq!(rt; went.fault, fault, "{count}");
-        }
+    let flat = design(alloc)?;
+    for (number, case) in CASES.iter().enumerate() {
+        assert!(rt; case.piece >= 1);
+        let (rows, fault) = read_all(alloc, &flat, case)?;
+        assert_eq!(rt; rows.as_slice(), case.rows.as_bytes(), "case {number}");
+        assert_eq!(rt; fault, case.fault, "case {number}");
     }
     Ok(())
 }

@@ -82,19 +82,19 @@ keep_all : (held : Option (List ℕ)) → Keeps held held
 keep_all None = tt
 keep_all (Some xs) = refl
 
--- nothing was written, for want of memory
+-- nothing was written, out of memory
 pub none_written : (held : Option (List ℕ)) (faults : ℕ) (text : List ℕ) → WritesText held held faults faults text (Err fault.Memory)
-none_written held faults text = record { whole = tt; part = (0, append_none held); later = omega arith; cause = keep_all held }
+none_written held faults text = record { whole = tt; kept = tt; part = (0, append_none held); later = omega arith; cause = (keep_all held, refl) }
 
 -- a front was written, and the sink failed
 pub part_written : (old new : Option (List ℕ)) (before now : ℕ) (text : List ℕ) → AppendsPart old new text → before ≤ now → Rose before now
     → WritesText old new before now text (Err fault.Write)
-part_written old new before now text p l r = record { whole = tt; part = p; later = l; cause = r }
+part_written old new before now text p l r = record { whole = tt; kept = tt; part = p; later = l; cause = r }
 
 -- all was written
-pub all_written : (old new : Option (List ℕ)) (before now : ℕ) (text : List ℕ) → Appends old new text → AppendsPart old new text → before ≤ now
+pub all_written : (old new : Option (List ℕ)) (before now : ℕ) (text : List ℕ) → Appends old new text → AppendsPart old new text → now ≡ before
     → WritesText old new before now text (Ok tt)
-all_written old new before now text w p l = record { whole = w; part = p; later = l; cause = tt }
+all_written old new before now text w p k = record { whole = w; kept = k; part = p; later = omega (arith, k); cause = tt }
 
 -- the header is the text of a window of no cycle
 pub header_written : (top : Scope) (first : ℕ) (old new : Option (List ℕ)) (before now : ℕ) (result : Result (Unit {0}) VcdFault)

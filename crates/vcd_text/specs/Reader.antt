@@ -16,12 +16,12 @@ abbrev pub AreFull : List Variable → List (List ℕ) → Type 0
 AreFull variables [] = Unit {0}
 AreFull variables (vs ∷ more) = (length vs ≡ length variables) × AreFull variables more
 
--- the two times of a cycle: while it settles, and behind the rising edge
+-- the two times of a cycle: while it settles, and after the rising edge
 abbrev pub moment : Bool → ℕ → ℕ
 moment false cycle = 2 * cycle
 moment true cycle = 2 * cycle + 1
 
--- what is there to be seen at them: the values, and behind the edge 1 for each clock
+-- what is there to be seen at them: the values, and after the edge 1 for each clock
 abbrev pub seen : Bool → List Variable → List ℕ → List ℕ
 seen false variables vs = vs
 seen true variables vs = risen variables vs
@@ -31,13 +31,14 @@ seen true variables vs = risen variables vs
 abbrev pub Recovers : Type 0
 Recovers = (edge : Bool) (variables : List Variable) (first : ℕ) (vals : List (List ℕ)) (i k : ℕ)
     → AreFull variables vals → i < length vals → k < length variables
-    → read_at k (moment edge (first + i)) (window_lines variables first vals) None ≡ slice_get (seen edge variables (slice_index_or vals i [])) k
+    → read_at k (moment edge (first + i)) (window_lines variables first vals) None
+    ≡ slice_get (seen edge variables (slice_index_or vals i [])) k
 
 -- two variables have two codes
 abbrev pub CodesDiffer : Type 0
 CodesDiffer = (m n : ℕ) → code m ≡ code n → m ≡ n
 
--- the number that binary digits are, behind others that are a
+-- the number that binary digits are, after others that are a
 abbrev pub number_of_bits : ℕ → List ℕ → ℕ
 number_of_bits a digits = fold (λ n d. 2 * n + (d - 48)) a digits
 

@@ -12,7 +12,7 @@ abbrev pub code_within : ℕ → ℕ → List ℕ
 code_within zero n = []
 code_within (suc steps) n = if nat_lt n 94 then (33 + n) ∷ [] else code_within steps (n / 94 - 1) ++ (33 + n % 94) ∷ []
 
--- of a number below 94 one character, and of a larger one that of n / 94 - 1 and a character behind it
+-- of a number below 94 one character, and of a larger one that of n / 94 - 1 and one more character
 unfoldable pub code : ℕ → List ℕ
 code n = code_within (suc n) n
 
@@ -50,9 +50,10 @@ abbrev mutual
   scopes_text n (next_scope s ss) = scope_text n s ++ scopes_text (n + length (variables_of s)) ss
 
 abbrev pub header_text : Scope → List ℕ
-header_text top = codes "$version dessert 1 $end\n$timescale 1 ns $end\n" ++ (scope_text 0 top ++ codes "$enddefinitions $end\n")
+header_text top =
+    codes "$version dessert 1 $end\n$timescale 1 ns $end\n" ++ (scope_text 0 top ++ codes "$enddefinitions $end\n")
 
--- ---- the lines behind the header (18.2.1, 18.2.2)
+-- ---- the lines after the header (18.2.1, 18.2.2)
 
 -- a time, a value of the variable of a number with its width, and the two words round the first values
 pub data Line : Type 0 where
@@ -103,29 +104,31 @@ edges n (x ∷ variables) = if x.clock then value x.width n 1 ∷ edges (n + 1) 
 abbrev pub has_clock : List Variable → Bool
 has_clock variables = list_any (λ x. x.clock) variables
 
--- the rising edge behind a cycle, where there is a clock
+-- the rising edge after a cycle, where there is a clock
 abbrev pub rise : List Variable → ℕ → List Line
 rise variables cycle = if has_clock variables then time (2 * cycle + 1) ∷ edges 0 variables else []
 
--- the values last written behind a cycle: those of the cycle, and 1 of each clock
+-- the values last written after a cycle: those of the cycle, and 1 of each clock
 abbrev pub risen : List Variable → List ℕ → List ℕ
 risen (x ∷ variables) (v ∷ vs) = (if x.clock then 1 else v) ∷ risen variables vs
 risen _ _ = []
 
 -- the first cycle: all values
 abbrev pub first_lines : List Variable → ℕ → List ℕ → List Line
-first_lines variables cycle vs = time (2 * cycle) ∷ dumpvars ∷ (all_values 0 variables vs ++ (end ∷ rise variables cycle))
+first_lines variables cycle vs =
+    time (2 * cycle) ∷ dumpvars ∷ (all_values 0 variables vs ++ (end ∷ rise variables cycle))
 
--- a later cycle: what changes behind a cycle whose values were `last`
+-- a later cycle: what changes after a cycle whose values were `last`
 abbrev pub later_lines : List Variable → ℕ → List ℕ → List ℕ → List Line
-later_lines variables cycle last vs = time (2 * cycle) ∷ (changes 0 variables (risen variables last) vs ++ rise variables cycle)
+later_lines variables cycle last vs =
+    time (2 * cycle) ∷ (changes 0 variables (risen variables last) vs ++ rise variables cycle)
 
--- the cycles from one on, behind a cycle whose values were `last`
+-- the cycles from one on, after a cycle whose values were `last`
 abbrev pub later : List Variable → ℕ → List ℕ → List (List ℕ) → List Line
 later variables cycle last [] = []
 later variables cycle last (vs ∷ more) = later_lines variables cycle last vs ++ later variables (cycle + 1) vs more
 
--- all lines behind the header
+-- all lines after the header
 abbrev pub window_lines : List Variable → ℕ → List (List ℕ) → List Line
 window_lines variables first [] = []
 window_lines variables first (vs ∷ more) = first_lines variables first vs ++ later variables (first + 1) vs more

@@ -16,7 +16,7 @@ abbrev pub last_of : List ℕ → List (List ℕ) → List ℕ
 last_of vs [] = vs
 last_of vs (more ∷ rest) = last_of more rest
 
--- the writer stands as it does behind the header and cycles of these valuations: what it wrote last, and what the last of them showed
+-- the writer is as it is after the header and cycles of these valuations: what it wrote last, and what the last of them showed
 abbrev pub HasWritten : Writer → List (List ℕ) → Type 0
 HasWritten w [] = w.written ≡ progress.Header
 HasWritten w (vs ∷ rest) = (w.written ≡ progress.Cycles) × (w.last ≡ last_of vs rest)

@@ -9,6 +9,7 @@ use crate::lines::{push_change, push_time, push_value};
 use crate::progress::Progress;
 use dt_core::append::push;
 use dt_core::fault::NoMemory;
+use dt_core::limits::MAX_WIDTH;
 use flat_ir::design::{Role, Signal};
 use plain_sim::sim::Sim;
 
@@ -35,7 +36,8 @@ fn has_clock(signals: &[Signal]) -> bool
 fn push_all(text: &mut Vec<u8>, signals: &[Signal], values: &[u128]) -> Result<(), NoMemory>
     requires widths { WidthsFit signals.now }
     requires values { length values.now ≡ length signals.now }
-    ensures { OnOk result (text.new.items ≡ text.old.items ++ lines_text (all_values 0 (map variable_of signals.now) values.now)) }
+    ensures { OnOk result (text.new.items
+        ≡ text.old.items ++ lines_text (all_values 0 (map variable_of signals.now) values.now)) }
 {
     for (number, signal) in signals.iter().enumerate() {
         push_value(text, signal.width, number, values[number])?;
@@ -43,14 +45,14 @@ fn push_all(text: &mut Vec<u8>, signals: &[Signal], values: &[u128]) -> Result<(
     Ok(())
 }
 
-// What was last written for a signal that showed a value: behind a cycle the clock is 1.
+// What was last written for a signal that showed a value: after a cycle the clock is 1.
 fn last_written(signal: &Signal, shown: u128) -> u128
     ensures { result ≡ (if is_clock signal.now.role then 1 else shown) }
 {
     if is_clock(signal) { 1 } else { shown }
 }
 
-// Appends the values that differ from the last ones written behind a cycle that showed `last`.
+// Appends the values that differ from the last ones written after a cycle that showed `last`.
 fn push_changes(
     text: &mut Vec<u8>,
     signals: &[Signal],
@@ -60,7 +62,9 @@ fn push_changes(
     requires widths { WidthsFit signals.now }
     requires last { length last.now ≡ length signals.now }
     requires values { length values.now ≡ length signals.now }
-    ensures { OnOk result (text.new.items ≡ text.old.items ++ lines_text (changes 0 (map variable_of signals.now) (risen (map variable_of signals.now) last.now) values.now)) }
+    ensures { OnOk result (text.new.items
+        ≡ text.old.items ++ lines_text (changes 0 (map variable_of signals.now)
+        (risen (map variable_of signals.now) last.now) values.now)) }
 {
     for (number, signal) in signals.iter().enumerate() {
         let written = last_written(signal, last[number]);
@@ -71,8 +75,9 @@ fn push_changes(
 
 // Appends the value 1 of a signal that shows the clock.
 fn push_edge(text: &mut Vec<u8>, number: usize, signal: &Signal) -> Result<(), NoMemory>
-    requires { signal.now.width ≤ 128 }
-    ensures { OnOk result (text.new.items ≡ text.old.items ++ (if is_clock signal.now.role then lines_text (value signal.now.width number 1 ∷ []) else [])) }
+    requires { signal.now.width ≤ MAX_WIDTH }
+    ensures { OnOk result (text.new.items
+        ≡ text.old.items ++ (if is_clock signal.now.role then lines_text (value signal.now.width number 1 ∷ []) else [])) }
 {
     if is_clock(signal) {
         push_value(text, signal.width, number, 1)
@@ -92,7 +97,7 @@ fn push_edges(text: &mut Vec<u8>, signals: &[Signal]) -> Result<(), NoMemory>
     Ok(())
 }
 
-// Appends the rising edge behind a cycle.
+// Appends the rising edge after a cycle.
 fn push_rise(text: &mut Vec<u8>, signals: &[Signal], cycle: u64) -> Result<(), NoMemory>
     requires { WidthsFit signals.now }
     ensures { OnOk result (text.new.items ≡ text.old.items ++ lines_text (rise (map variable_of signals.now) cycle)) }
@@ -113,7 +118,8 @@ fn push_first(
 ) -> Result<(), NoMemory>
     requires widths { WidthsFit signals.now }
     requires values { length values.now ≡ length signals.now }
-    ensures { OnOk result (text.new.items ≡ text.old.items ++ lines_text (first_lines (map variable_of signals.now) cycle values.now)) }
+    ensures { OnOk result (text.new.items
+        ≡ text.old.items ++ lines_text (first_lines (map variable_of signals.now) cycle values.now)) }
 {
     push_time(text, 2 * u128::from(cycle))?;
     push(text, b"$dumpvars\n")?;
@@ -122,7 +128,7 @@ fn push_first(
     push_rise(text, signals, cycle)
 }
 
-// Appends the lines of a later cycle, behind one that showed `last`.
+// Appends the lines of a later cycle, after one that showed `last`.
 fn push_later(
     text: &mut Vec<u8>,
     signals: &[Signal],
@@ -133,14 +139,15 @@ fn push_later(
     requires widths { WidthsFit signals.now }
     requires last { length last.now ≡ length signals.now }
     requires values { length values.now ≡ length signals.now }
-    ensures { OnOk result (text.new.items ≡ text.old.items ++ lines_text (later_lines (map variable_of signals.now) cycle last.now values.now)) }
+    ensures { OnOk result (text.new.items
+        ≡ text.old.items ++ lines_text (later_lines (map variable_of signals.now) cycle last.now values.now)) }
 {
     push_time(text, 2 * u128::from(cycle))?;
     push_changes(text, signals, last, values)?;
     push_rise(text, signals, cycle)
 }
 
-// Appends the lines of a cycle behind what was written, where the last cycle showed `last`.
+// Appends the lines of a cycle after what was written, where the last cycle showed `last`.
 pub(crate) fn push_cycle(
     text: &mut Vec<u8>,
     signals: &[Signal],
@@ -152,7 +159,8 @@ pub(crate) fn push_cycle(
     requires widths { WidthsFit signals.now }
     requires last { length last.now ≡ length signals.now }
     requires values { length values.now ≡ length signals.now }
-    ensures { OnOk result (text.new.items ≡ text.old.items ++ lines_text (cycle_lines written (map variable_of signals.now) cycle last.now values.now)) }
+    ensures { OnOk result (text.new.items
+        ≡ text.old.items ++ lines_text (cycle_lines written (map variable_of signals.now) cycle last.now values.now)) }
 {
     match written {
         Progress::Cycles => push_later(text, signals, cycle, last, values),

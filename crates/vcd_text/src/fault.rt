@@ -8,7 +8,7 @@ pub enum VcdFault {
     /// The sink failed; its count of faults has risen.
     #[error("the waveform was not written")]
     Write,
-    /// No memory was to be had.
+    /// Out of memory.
     #[error("no memory was to be had")]
     Memory,
 }

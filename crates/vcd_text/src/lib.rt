@@ -1,8 +1,9 @@
 //! The waveform's text: what a design shows in the cycles of a window, as a value change dump.
 //!
 //! Below: `dt_core`, `dt_io`, `flat_ir`, `plain_sim`. Above: `dessert` writes the window of a failure.
-//! Promise: header and cycles, one behind another, are `specs/Vcd`'s text of the design's scope and the valuations; of a call that
-//! fails a front stands in the sink, and the writer isn't live any more. A reader recovers each value from the lines.
+//! Promise: header and cycles, one after another, are `specs/Vcd`'s text of the design's scope and the valuations. A call that
+//! succeeds leaves the sink's count of faults as it was; of one that fails a front is in the sink, and the writer isn't live any
+//! more. A reader recovers each value from the lines.
 //! Not said: that memory is enough; how long a cycle takes.
 #![tactic(auto)]
 

@@ -1,10 +1,11 @@
-//! The lines behind the header, each pushed behind a text.
+//! The lines after the header, each appended to a text.
 
 ghost use Rattle.std.specs.Prelude.{◌≡◌, ◌≤◌, ◌++◌, ◌∷◌, [], OnOk, codes, decimal, ◌==◌, if◌then◌else◌};
 ghost use Rattle.vcd_text.specs.Vcd.{code, bits, value_text, line_text, time};
 
 use dt_core::append::{push, push_number};
 use dt_core::fault::NoMemory;
+use dt_core::limits::MAX_WIDTH;
 
 // Appends a byte.
 fn push_byte(text: &mut Vec<u8>, byte: u8) -> Result<(), NoMemory>
@@ -29,7 +30,7 @@ pub(crate) fn push_code(text: &mut Vec<u8>, number: usize) -> Result<(), NoMemor
 
 // Appends the low bits of a number, from the left.
 fn push_bits(text: &mut Vec<u8>, width: u32, value: u128) -> Result<(), NoMemory>
-    requires { width ≤ 128 }
+    requires { width ≤ MAX_WIDTH }
     ensures { OnOk result (text.new.items ≡ text.old.items ++ bits width value) }
 {
     let mut left = width;
@@ -51,8 +52,9 @@ fn push_scalar(text: &mut Vec<u8>, number: usize, value: u128) -> Result<(), NoM
 
 // Appends the line of a wider value.
 fn push_vector(text: &mut Vec<u8>, width: u32, number: usize, value: u128) -> Result<(), NoMemory>
-    requires { width ≤ 128 }
-    ensures { OnOk result (text.new.items ≡ text.old.items ++ (codes "b" ++ (bits width value ++ (codes " " ++ (code number ++ codes "\n"))))) }
+    requires { width ≤ MAX_WIDTH }
+    ensures { OnOk result (text.new.items
+        ≡ text.old.items ++ (codes "b" ++ (bits width value ++ (codes " " ++ (code number ++ codes "\n"))))) }
 {
     push(text, b"b")?;
     push_bits(text, width, value)?;
@@ -68,7 +70,7 @@ pub(crate) fn push_value(
     number: usize,
     value: u128,
 ) -> Result<(), NoMemory>
-    requires { width ≤ 128 }
+    requires { width ≤ MAX_WIDTH }
     ensures { OnOk result (text.new.items ≡ text.old.items ++ value_text width number value) }
 {
     if width == 1 {
@@ -86,8 +88,9 @@ pub(crate) fn push_change(
     last: u128,
     value: u128,
 ) -> Result<(), NoMemory>
-    requires { width ≤ 128 }
-    ensures { OnOk result (text.new.items ≡ text.old.items ++ (if last == value then [] else value_text width number value)) }
+    requires { width ≤ MAX_WIDTH }
+    ensures { OnOk result (text.new.items
+        ≡ text.old.items ++ (if last == value then [] else value_text width number value)) }
 {
     if last == value {
         Ok(())

@@ -1,6 +1,6 @@
 //! How far a writer has come.
 
-/// What was written: nothing, the header, or the header and cycles behind it.
+/// What was written: nothing, the header, or the header and cycles after it.
 #[derive(Clone, Copy, Debug, PartialEq, Eq)]
 pub enum Progress {
     Nothing,

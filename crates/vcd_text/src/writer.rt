@@ -39,11 +39,13 @@ impl<'a> Model for VcdWriter<'a> {
 
     ghost view = { λ w. record { design = w.flat.now; live = w.live; written = w.written; last = w.last.items } };
 
-    ghost invariant = { λ w. (length w.last.items ≡ length w.flat.now.signals) × (length w.values.items ≡ length w.flat.now.signals) × (length w.flat.now.signals < 2 ^ 32) };
+    ghost invariant = { λ w. (length w.last.items ≡ length w.flat.now.signals)
+        × (length w.values.items ≡ length w.flat.now.signals)
+        × (length w.flat.now.signals < 2 ^ 32) };
 }
 
 impl<'a> VcdWriter<'a> {
-    /// A writer for a design, with memory for two valuations. More than 2^32-1 signals are want of memory.
+    /// A writer for a design, with memory for two valuations. It answers out of memory for more than 2^32-1 signals.
     pub fn new(alloc: Global, flat: &'a Flat) -> Result<VcdWriter<'a>, NoMemory>
         ensures { IfOk result (λ w. (w.design ≡ flat.now) × IsTrue w.live × (w.written ≡ progress.Nothing)) }
     {
@@ -72,7 +74,8 @@ impl<'a> VcdWriter<'a> {
     pub fn header<K: Sink>(&mut self, out: &mut K) -> Result<(), VcdFault>
         requires live { IsTrue self.old.live }
         requires nothing { self.old.written ≡ progress.Nothing }
-        ensures text { (first : ℕ) → WritesText (K.held out.old) (K.held out.new) (K.faults out.old) (K.faults out.new) (vcd_text (flat_scope self.old.design) first []) result }
+        ensures text { (first : ℕ) → WritesText (K.held out.old) (K.held out.new) (K.faults out.old) (K.faults out.new)
+            (vcd_text (flat_scope self.old.design) first []) result }
         ensures written { OnOk result (HasWritten self.new []) }
         ensures begun { OnOk result (self.new.written ≢ progress.Nothing) }
         ensures later { K.faults out.old ≤ K.faults out.new }
@@ -93,17 +96,20 @@ impl<'a> VcdWriter<'a> {
     }
 
     /// Writes the lines of the cycle in which the simulator stands, with the row of its last settle: the first cycle, or the one
-    /// behind the last cycle that was written. After a refusal a front of them was written.
+    /// after the last cycle that was written. After a refusal a front of them was written.
     pub fn cycle<K: Sink>(&mut self, out: &mut K, sim: &Sim) -> Result<(), VcdFault>
         requires live { IsTrue self.old.live }
         requires begun { self.old.written ≢ progress.Nothing }
         requires design { sim.now.flat ≡ self.old.design }
-        ensures text { (first : ℕ) (cycles : List (List ℕ)) → HasWritten self.old cycles → sim.now.cycle ≡ first + length cycles
-            → WritesCycle (flat_scope self.old.design) first cycles (flat_shown self.old.design sim.now.row sim.now.state)
+        ensures text { (first : ℕ) (cycles : List (List ℕ))
+            → HasWritten self.old cycles → sim.now.cycle ≡ first + length cycles
+            → WritesCycle (flat_scope self.old.design) first cycles
+            (flat_shown self.old.design sim.now.row sim.now.state)
             (K.held out.old) (K.held out.new) (K.faults out.old) (K.faults out.new) result }
         ensures begun { OnOk result (self.new.written ≢ progress.Nothing) }
         ensures later { K.faults out.old ≤ K.faults out.new }
-        ensures written { OnOk result ((cycles : List (List ℕ)) → HasWritten self.old cycles → HasWritten self.new (cycles ++ flat_shown self.old.design sim.now.row sim.now.state ∷ [])) }
+        ensures written { OnOk result ((cycles : List (List ℕ)) → HasWritten self.old cycles
+            → HasWritten self.new (cycles ++ flat_shown self.old.design sim.now.row sim.now.state ∷ [])) }
         ensures live { IsTrue self.new.live ↔ IsOk result }
         ensures design { self.new.design ≡ self.old.design }
     {

@@ -46,7 +46,7 @@ returns-clause-text g c = λ first cycles h e.
     cycle_written w w.design first c.args.sim.now.cycle cycles (flat_shown w.design c.args.sim.now.row c.args.sim.now.state) _ _ _ _ _ h e
     (subst (λ (text : List ℕ). WritesText (g.K.Sink.held c.args.out.now) (g.K.Sink.held c.write_all.new.sink) (g.K.Sink.faults c.args.out.now) (g.K.Sink.faults c.write_all.new.sink) text (Ok tt))
     (c.deref-3.ensures.value ∙ pushed g (goal.at.returns-clause-text g c).In_default)
-    (all_written _ _ _ _ _ c.in_default-write_all.ensures.whole c.write_all.ensures.part c.write_all.ensures.cause.later))
+    (all_written _ _ _ _ _ c.in_default-write_all.ensures.whole c.write_all.ensures.part c.in_default-write_all.ensures.cause.kept))
 
 pub returns-clause-written : goal.returns-clause-written
 returns-clause-written g c = λ cycles h.

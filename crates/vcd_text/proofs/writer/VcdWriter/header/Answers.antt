@@ -15,4 +15,4 @@ returns-clause-text g c = λ first.
     c.deref.ensures.value ∙ pushed ∙ ap (λ (xs : List ℕ). xs ++ header_text (flat_scope c.self.inside.flat.now)) c.clear.ensures.items ∙ ap (λ (f : Flat). header_text (flat_scope f)) design in
     header_written (flat_scope c.args.self.now.design) first _ _ _ _ _
     (subst (λ (text : List ℕ). WritesText (g.K.Sink.held c.args.out.now) (g.K.Sink.held c.write_all.new.sink) (g.K.Sink.faults c.args.out.now) (g.K.Sink.faults c.write_all.new.sink) text (Ok tt)) same
-    (all_written _ _ _ _ _ c.in_default-write_all.ensures.whole c.write_all.ensures.part c.write_all.ensures.cause.later))
+    (all_written _ _ _ _ _ c.in_default-write_all.ensures.whole c.write_all.ensures.part c.in_default-write_all.ensures.cause.kept))
