@@ -3,8 +3,8 @@ use Rattle.std.proofs.Common.{◌≡◌, ℕ, ◌+◌, ◌<◌, ◌≤◌, List,
 use Rattle.std.specs.List.{concat}
 use Rattle.std.proofs.lemmas.List.Folds.{concat-append}
 use Rattle.flat_ir.specs.FlatRun.{Flat, flat_state, flat_start}
-use Rattle.dessert.specs.Kept.{AreLong, Holds}
-use Rattle.dessert.specs.Progress.{Window}
+use Rattle.dessert.specs.Calls.Kept.{AreLong, Holds}
+use Rattle.dessert.specs.Calls.Progress.{Window}
 use Rattle.dessert.proofs.RanLaws.{state_front}
 
 long_more : (n : ℕ) (rows : List (List ℕ)) (row : List ℕ) → AreLong n rows → length row ≡ n → AreLong n (rows ++ row ∷ [])
@@ -27,6 +27,7 @@ none_kept f w first e b o n m u k s = record {
   older = o;
   older_count = n;
   older_long = tt;
+  older_few = omega arith;
   middle = m ∙ s;
   newer = u;
   newer_count = k;
@@ -56,6 +57,7 @@ module _ (f : Flat) (rows : List (List ℕ)) (w v : Window) (h : Holds f rows w)
         older = o ∙ h.newer;
         older_count = n ∙ h.newer_count;
         older_long = h.newer_long;
+        older_few = omega (arith, h.within, p);
         middle = m ∙ s ∙ ap (flat_state f rows) (omega (arith, lengths rows h.front h.olds h.news h.whole, l));
         newer = u;
         newer_count = k;
@@ -80,6 +82,7 @@ module _ (f : Flat) (rows : List (List ℕ)) (w v : Window) (h : Holds f rows w)
         older = o ∙ h.older;
         older_count = n ∙ h.older_count;
         older_long = h.older_long;
+        older_few = omega (arith, h.older_few, p);
         middle = m ∙ h.middle ∙ sym (state_front f rows row (length h.front + length h.olds) (omega (arith, lengths rows h.front h.olds h.news h.whole)));
         newer = u ∙ ap (λ (x : List ℕ). x ++ row) h.newer ∙ concat_more h.news row;
         newer_count = omega (arith, k, h.newer_count, l);

@@ -5,6 +5,7 @@ pub mod KeptLaws
 pub mod LoadLaws
 pub mod SpotLaws
 pub mod RowsLaws
+pub mod StepsLaws
 pub mod StateLaws
 pub mod ReplayLaws
 pub mod FailLaws

@@ -5,9 +5,9 @@ use Rattle.std.proofs.Math.ListN.{get_or-append}
 use Rattle.std.proofs.Math.Seq.{get_or-append_seam}
 use Rattle.std.proofs.Math.Nat.{eq-or-lt_of_le}
 use Rattle.flat_ir.specs.FlatRun.{Flat, flat_state, flat_next, flat_fired}
-use Rattle.dessert.specs.Kept.{Holds}
-use Rattle.dessert.specs.Progress.{Failure, Window, Progress}
-use Rattle.dessert.specs.Ran.{fired_at, Found, KeepsLast, HasRun, RanTo, Steps}
+use Rattle.dessert.specs.Calls.Kept.{Holds}
+use Rattle.dessert.specs.Calls.Progress.{Failure, Window, Progress}
+use Rattle.dessert.specs.Calls.Ran.{fired_at, Found, KeepsLast, HasRun, RanTo, Takes}
 
 module _ (f : Flat) (rows : List (List ℕ)) (row : List ℕ) where
   -- a row in front stays, and the new one is the last
@@ -54,8 +54,8 @@ module _ (f : Flat) (rows : List (List ℕ)) (row : List ℕ) where
       let e = fired_front x.cycle h.0 in
       (omega (arith, h.0, longer), h.1 ∙ sym e, λ z. h.2 (sym e ∙ z), λ t i. fired_front t (omega (arith, i, h.0)) ∙ h.3 t i)
 
-  -- a cycle behind rows in which nothing fired
-  found_next : (state after : List ℕ) (cycle cycle' : ℕ) (o : Option Failure) → Found f rows state None → cycle ≡ length rows → Steps f row state after cycle cycle' o
+  -- a cycle after rows in which nothing fired
+  found_next : (state after : List ℕ) (cycle cycle' : ℕ) (o : Option Failure) → Found f rows state None → cycle ≡ length rows → Takes f row state after cycle cycle' o
       → Found f (rows ++ row ∷ []) after o
   found_next state after cycle cycle' None h n s = (
     s.0 ∙ ap (flat_next f row) h.0 ∙ sym state_last,
@@ -69,19 +69,19 @@ module _ (f : Flat) (rows : List (List ℕ)) (row : List ℕ) where
       let l : fired_at f (rows ++ row ∷ []) x.cycle ≡ flat_fired f row state = ap (fired_at f (rows ++ row ∷ [])) c ∙ fired_last ∙ ap (flat_fired f row) (sym h.0) in
       (omega (arith, c, longer), s.2 ∙ sym l, λ z. s.3 (sym l ∙ z), λ t i. quiet_front h.1 t (omega (arith, i, c)))
 
-  -- what is kept behind one cycle
-  kept_next : (state after : List ℕ) (cycle cycle' : ℕ) (w : Window) (o : Option Failure) → cycle ≡ length rows → Steps f row state after cycle cycle' o → Holds f (rows ++ row ∷ []) w
+  -- what is kept after one cycle
+  kept_next : (state after : List ℕ) (cycle cycle' : ℕ) (w : Window) (o : Option Failure) → cycle ≡ length rows → Takes f row state after cycle cycle' o → Holds f (rows ++ row ∷ []) w
       → KeepsLast f (rows ++ row ∷ []) cycle' w o
   kept_next state after cycle cycle' w None n s h = (omega (arith, s.1, n, longer), h)
   kept_next state after cycle cycle' w (Some x) n s h =
       (omega (arith, s.0, n, longer), rows ++ row ∷ [], [], sym (append-nil (rows ++ row ∷ [])), omega (arith, s.1, n, longer), h)
 
-  -- behind the first failure nothing more is kept
+  -- after the first failure nothing more is kept
   kept_stays : (cycle : ℕ) (w : Window) (x : Failure) → KeepsLast f rows cycle w (Some x) → KeepsLast f (rows ++ row ∷ []) cycle w (Some x)
   kept_stays cycle w x k =
       (omega (arith, k.0, longer), k.1, k.2 ++ row ∷ [], ap (λ (r : List (List ℕ)). r ++ row ∷ []) k.3 ∙ append_assoc k.1 k.2 (row ∷ []), k.4, k.5)
 
-  -- a row more behind the first failure
+  -- a row more after the first failure
   pub ran_behind : (p : Progress) (x : Failure) → p.failure ≡ Some x → HasRun f rows p → HasRun f (rows ++ row ∷ []) p
   ran_behind p x e r = record {
     flat = r.flat;
@@ -93,11 +93,11 @@ module _ (f : Flat) (rows : List (List ℕ)) (row : List ℕ) where
   -- a cycle more, where nothing has fired
   pub ran_next : (p q : Progress) → p.failure ≡ None → HasRun f rows p → q.flat ≡ p.flat → q.window.period ≡ p.window.period → length row ≡ p.flat.inputs
       → ((g : Flat) (rs : List (List ℕ)) → Holds g rs p.window → p.state ≡ flat_state g rs (length rs) → length row ≡ g.inputs → Holds g (rs ++ row ∷ []) q.window)
-      → Steps p.flat row p.state q.state p.cycle q.cycle q.failure → HasRun f (rows ++ row ∷ []) q
+      → Takes p.flat row p.state q.state p.cycle q.cycle q.failure → HasRun f (rows ++ row ∷ []) q
   ran_next p q e r l n wide holds s =
       let found : Found f rows p.state None = subst (Found f rows p.state) e r.found in
       let kept : KeepsLast f rows p.cycle p.window None = subst (KeepsLast f rows p.cycle p.window) e r.kept in
-      let steps : Steps f row p.state q.state p.cycle q.cycle q.failure = subst (λ (g : Flat). Steps g row p.state q.state p.cycle q.cycle q.failure) r.flat s in
+      let steps : Takes f row p.state q.state p.cycle q.cycle q.failure = subst (λ (g : Flat). Takes g row p.state q.state p.cycle q.cycle q.failure) r.flat s in
       record {
         flat = l ∙ r.flat;
         found = found_next p.state q.state p.cycle q.cycle q.failure found kept.0 steps;

@@ -21,15 +21,16 @@ use Rattle.vl_meaning.proofs.OneBit.{one_bit}
 use Rattle.vcd_text.specs.Vcd.{vcd_text}
 use Rattle.stim.specs.Stimulus.{IsStimulus}
 use Rattle.dessert.specs.Report.{stop_of, failure_text}
-use Rattle.dessert.specs.Answer.{Outside, Status, done, Ready, Answers}
+use Rattle.dessert.specs.Outside.{Outside}
+use Rattle.dessert.specs.Answer.{Status, done, Ready, Answers}
 use Rattle.dessert.specs.Words.{Job}
 use Rattle.dessert.specs.Sources.{Origins}
 use Rattle.dessert.specs.Outcome.{layers, from_on, window_start, output_of, report_of, Judges}
-use Rattle.dessert.specs.Progress.{Failure, Progress}
-use Rattle.dessert.specs.Ran.{fired_at, Found, RanTo}
-use Rattle.dessert.specs.Again.{flat_shown_at}
-use Rattle.dessert.specs.Writing.{sinks_of, done_status, Delivered}
-use Rattle.dessert.specs.Written.{ended_by, out_by, text_by, RunIsWritten}
+use Rattle.dessert.specs.Calls.Progress.{Failure, Progress}
+use Rattle.dessert.specs.Calls.Ran.{fired_at, Found, RanTo}
+use Rattle.dessert.specs.Calls.Again.{flat_shown_at}
+use Rattle.dessert.specs.Calls.Writing.{done_status, Delivered}
+use Rattle.dessert.specs.Calls.Written.{ended_by, out_by, text_by, RunIsWritten}
 use Rattle.dessert.proofs.Cases.{delivered_answers}
 use Rattle.dessert.proofs.FailLaws.{from_on_same}
 
@@ -100,19 +101,21 @@ module _ (f : Flat) (m : Module) (rows : List (List ℕ)) (s : StandsFor f m) (f
 pub rows_fit : (m : Module) (rows : List (List ℕ)) (bytes : List ℕ) → is_sound m ≡ true → IsStimulus (data_inputs m) rows bytes → AllFit m rows
 rows_fit m rows bytes sound i = λ t h. subst (λ (ws : List ℕ). Fit ws (slice_index_or rows t [])) (sym (one_bit m sound)) (i.are_rows.fit t h)
 
-module _ (content : List ℕ → Option (List ℕ)) (told : Bool) (words : List (List ℕ)) (old new : Outside) where
+module _ (words : List (List ℕ)) (old new : Outside) where
   status_is : (o : Option Failure) → ended_by o ≡ done_status (fired_by o)
   status_is None = refl
   status_is (Some x) = refl
 
   -- the texts of a run over the whole input were written, in part or not at all
   pub settled : (j : Job) (f : Flat) (m : Module) (origins : Origins) (rows : List (List ℕ)) (bytes : List ℕ) (p : Progress) (result : Status)
-      → StandsFor f m → is_sound m ≡ true → Ready layers content told words old new j (record { top = m; origins = origins }) → Consumes old.left new.left bytes → IsAtEnd new.left
-      → IsStimulus (data_inputs m) rows bytes → RanTo f rows p → RunIsWritten j.lag origins f rows p result (sinks_of old) (sinks_of new) → Answers layers content told words old new result
-  settled j f m origins rows bytes p result s sound r c e i ran d =
+      → StandsFor f m → is_sound m ≡ true → Ready layers words old new j (record { top = m; origins = origins })
+      → new.files.faults ≡ old.files.faults → new.source.faults ≡ old.source.faults → Consumes old.source.left new.source.left bytes → IsAtEnd new.source.left
+      → IsStimulus (data_inputs m) rows bytes → RanTo f rows p → RunIsWritten j.lag origins f rows p result old.out new.out old.report new.report
+      → Answers layers words old new result
+  settled j f m origins rows bytes p result s sound r file_count read_count c e i ran d =
       let is = judged f m rows s (rows_fit m rows bytes sound i) j origins bytes p.state p.failure i ran.ran.found in
       let t : text_by j.lag f.name origins p.cycles p.failure ≡ text_by j.lag m.name origins (length rows) p.failure = (λ x. text_by j.lag (s.name x) origins (ran.count x) p.failure) in
-      delivered_answers layers content told words old new (fired_by p.failure) (out_by j.lag f rows p.failure) (text_by j.lag m.name origins (length rows) p.failure) result
-      (record { job = j; the_design = record { top = m; origins = origins }; bytes = bytes; ready = r; taken = c; at_end = e; judged = is })
-      (subst (λ (x : List ℕ). Delivered (out_by j.lag f rows p.failure) x (done_status (fired_by p.failure)) result (sinks_of old) (sinks_of new)) t
-      (subst (λ (x : Status). Delivered (out_by j.lag f rows p.failure) (text_by j.lag f.name origins p.cycles p.failure) x result (sinks_of old) (sinks_of new)) (status_is p.failure) d))
+      delivered_answers layers words old new (fired_by p.failure) (out_by j.lag f rows p.failure) (text_by j.lag m.name origins (length rows) p.failure) result
+      (record { job = j; the_design = record { top = m; origins = origins }; bytes = bytes; ready = r; taken = c; at_end = e; judged = is }) file_count read_count
+      (subst (λ (x : List ℕ). Delivered (out_by j.lag f rows p.failure) x (done_status (fired_by p.failure)) result old.out new.out old.report new.report) t
+      (subst (λ (x : Status). Delivered (out_by j.lag f rows p.failure) (text_by j.lag f.name origins p.cycles p.failure) x result old.out new.out old.report new.report) (status_is p.failure) d))

@@ -56,7 +56,7 @@ behind_one b ys zero m e h k = absurd (omega (arith, h, k))
 behind_one b ys (suc zero) m e h k = let d = ends_more b [] _ e in absurd (omega (arith, h, k, d))
 behind_one b ys (suc (suc n)) m e h k = let d = ends_more b [] _ e in let s : suc n ≡ m = omega (arith, d, k) in rw e (ap (λ (x : ℕ). line_at x ys) s)
 
--- a line that begins behind the first text is a line of the second
+-- a line that begins after the first text is a line of the second
 behind_line : (xs ys : List ℕ) (n m : ℕ) → IsEnded xs → 1 ≤ m → n ≡ ends xs + m → line_at n (xs ++ ys) ≡ line_at m ys
 behind_line [] ys n m e h k = absurd e
 behind_line (b ∷ []) ys n m e h k = behind_one b ys n m e h k
@@ -79,7 +79,7 @@ closed_by file true e = rw e (ended_by file e)
 closed_by file false e = rw e (ended_behind file)
 
 module _ (name other : List ℕ) (names : List (List ℕ)) (file next : List ℕ) (files : List (List ℕ)) (line : ℕ) (h : 1 ≤ line) where
-  -- the line is among those of the first file, or behind them
+  -- the line is among those of the first file, or after them
   spot_by : (t : Bool) → nat_le line (line_count file) ≡ t → line ≤ ends (design_text (file ∷ next ∷ files))
       → ((left : ℕ) → 1 ≤ left → left ≤ ends (design_text (next ∷ files)) → (k : ℕ) × IsSpot (other ∷ names) (next ∷ files) left k (spot_in (origins_of (other ∷ names) (next ∷ files)) left))
       → (k : ℕ) × IsSpot (name ∷ other ∷ names) (file ∷ next ∷ files) line k (spot_in (origins_of (name ∷ other ∷ names) (file ∷ next ∷ files)) line)

@@ -1,9 +1,10 @@
 -- What a top call answers to words, files and bytes, and the cause of each answer. This project's own.
 -- The layers below stand here as one parameter: the words, the accepted designs, and what comes of a design and its input.
-use Rattle.std.specs.Prelude.{◌≡◌, ℕ, ◌≤◌, Bool, true, false, IsTrue, List, [], ◌∷◌, ◌++◌, length, take, Option, Some, ◌⊎◌}
+use Rattle.std.specs.Prelude.{◌≡◌, ℕ, ◌≤◌, Bool, true, false, IsTrue, List, [], ◌∷◌, ◌++◌, length, take, Some, None, ◌⊎◌}
 use Rattle.std.specs.Io.KnownBytes.{Appends, Consumes, IsAtEnd, Keeps}
 use Rattle.dt_core.specs.Causes.{Rose, AppendsPart}
 use Rattle.dt_io.specs.Files.{IsLong}
+use Rattle.dessert.specs.Outside.{FilesAt, Outside}
 use Rattle.dessert.specs.Sources.{most_file}
 use Rattle.dessert.specs.Report.{usage_text, file_failed_text, file_long_text, read_failed_text, write_failed_text}
 
@@ -60,31 +61,26 @@ pub record Layers : Type 1 where
   pub Judges : Job → Design → List ℕ → Judged → Type 0
   pub MayGoOn : Job → Design → List ℕ → Type 0
 
--- ---- the outside
-
--- what is known of the outside at one moment: what the source has left, what `out` and `report` hold, and the counts of faults
-pub record Outside : Type 0 where
-  pub left : Option (List ℕ)
-  pub reads : ℕ
-  pub out : Option (List ℕ)
-  pub writes : ℕ
-  pub report : Option (List ℕ)
-  pub reports : ℕ
-  pub loads : ℕ
-
-abbrev pub moment : Option (List ℕ) → ℕ → Option (List ℕ) → ℕ → Option (List ℕ) → ℕ → ℕ → Outside
-moment l r o w h p n = record { left = l; reads = r; out = o; writes = w; report = h; reports = p; loads = n }
-
--- the files of these names hold these contents, where that is told, and each is within the limit
-abbrev pub Loaded : (List ℕ → Option (List ℕ)) → Bool → List (List ℕ) → List (List ℕ) → Type 0
-Loaded content told [] [] = Unit {0}
-Loaded content told (name ∷ names) (bytes ∷ files) = (IsTrue told → content name ≡ Some bytes) × (length bytes ≤ most_file)
-    × Loaded content told names files
-Loaded content told _ _ = ⊥
-
 -- ---- the answer
 
-module _ (L : Layers) (content : List ℕ → Option (List ℕ)) (told : Bool) (words : List (List ℕ)) (old new : Outside) where
+-- the files of these names hold these contents, where that is known, and each is within the limit
+abbrev pub Loaded : FilesAt → List (List ℕ) → List (List ℕ) → Type 0
+Loaded shelf [] [] = Unit {0}
+Loaded shelf (name ∷ names) (bytes ∷ files) =
+    (IsTrue shelf.told → shelf.content name ≡ Some bytes) × (length bytes ≤ most_file) × Loaded shelf names files
+Loaded shelf _ _ = ⊥
+
+-- the load of a file failed: the count rose, and where each file that is there can be read, none has this name
+abbrev pub HasFailed : FilesAt → FilesAt → List ℕ → Type 0
+HasFailed old new name = Rose old.faults new.faults × (IsTrue old.reliable → old.content name ≡ None)
+
+-- a file is longer than the limit, and the count stands; where contents are not known the count rose
+abbrev pub IsTooLong : FilesAt → FilesAt → List ℕ → Type 0
+IsTooLong old new name =
+    (IsTrue old.told → IsLong (old.content name) most_file × (new.faults ≡ old.faults))
+    × (old.told ≡ false → Rose old.faults new.faults)
+
+module _ (L : Layers) (words : List (List ℕ)) (old new : Outside) where
   -- the words are those of a job
   abbrev pub IsAllowed : Type 0
   IsAllowed = (job : L.Job) × (L.words words ≡ allowed job)
@@ -93,7 +89,7 @@ module _ (L : Layers) (content : List ℕ → Option (List ℕ)) (told : Bool) (
   pub record Ready (job : L.Job) (d : L.Design) : Type 0 where
     pub files : List (List ℕ)
     pub words_are : L.words words ≡ allowed job
-    pub loaded : Loaded content told (L.files job) files
+    pub loaded : Loaded old.files (L.files job) files
     pub accepted : L.IsDesign job files d
 
   -- status 0 or 1: the job is done on its whole input
@@ -102,24 +98,24 @@ module _ (L : Layers) (content : List ℕ → Option (List ℕ)) (told : Bool) (
     pub the_design : L.Design
     pub bytes : List ℕ
     pub ready : Ready job the_design
-    pub taken : Consumes old.left new.left bytes
-    pub at_end : IsAtEnd new.left
+    pub taken : Consumes old.source.left new.source.left bytes
+    pub at_end : IsAtEnd new.source.left
     pub judged : L.Judges job the_design bytes (done fired out report)
 
   -- status 2: the words have no allowed form
   pub record BadWords (report : List ℕ) : Type 0 where
     pub words_are : L.words words ≡ bad
     pub report_is : report ≡ usage_text
-    pub untaken : Keeps old.left new.left
+    pub untaken : Keeps old.source.left new.source.left
 
   -- status 3: all files were loaded, and the design is refused
   pub record BadDesign (report : List ℕ) : Type 0 where
     pub job : L.Job
     pub files : List (List ℕ)
     pub words_are : L.words words ≡ allowed job
-    pub loaded : Loaded content told (L.files job) files
+    pub loaded : Loaded old.files (L.files job) files
     pub refused : L.IsRefusal job files report
-    pub untaken : Keeps old.left new.left
+    pub untaken : Keeps old.source.left new.source.left
 
   -- status 4: the bytes taken are refused, and for being cut short only at the input's end
   pub record BadInput (report : List ℕ) : Type 0 where
@@ -128,15 +124,15 @@ module _ (L : Layers) (content : List ℕ → Option (List ℕ)) (told : Bool) (
     pub bytes : List ℕ
     pub short : Bool
     pub ready : Ready job the_design
-    pub taken : Consumes old.left new.left bytes
-    pub at_end : IsTrue short → IsAtEnd new.left
+    pub taken : Consumes old.source.left new.source.left bytes
+    pub at_end : IsTrue short → IsAtEnd new.source.left
     pub judged : L.Judges job the_design bytes (refused short report)
 
-  -- why a file was not loaded, and what is reported of it: the count rose, or the file is longer than the limit
+  -- why a file was not loaded, and what is reported of it
   abbrev pub FileCause : List ℕ → List ℕ → Type 0
   FileCause name report =
-      (Rose old.loads new.loads × (report ≡ file_failed_text name))
-      ⊎ ((IsTrue told → IsLong (content name) most_file) × (told ≡ false → Rose old.loads new.loads) × (report ≡ file_long_text name))
+      (HasFailed old.files new.files name × (report ≡ file_failed_text name))
+      ⊎ (IsTooLong old.files new.files name × (report ≡ file_long_text name))
 
   -- status 5: all files before one were loaded, and that one was not
   pub record BadFile (report : List ℕ) : Type 0 where
@@ -147,9 +143,9 @@ module _ (L : Layers) (content : List ℕ → Option (List ℕ)) (told : Bool) (
     pub files : List (List ℕ)
     pub words_are : L.words words ≡ allowed job
     pub names_are : L.files job ≡ before ++ name ∷ after
-    pub loaded : Loaded content told before files
+    pub loaded : Loaded old.files before files
     pub cause : FileCause name report
-    pub untaken : Keeps old.left new.left
+    pub untaken : Keeps old.source.left new.source.left
 
   -- status 6: the source failed, and the bytes taken may go on to an accepted input
   pub record BadRead (report : List ℕ) : Type 0 where
@@ -157,19 +153,19 @@ module _ (L : Layers) (content : List ℕ → Option (List ℕ)) (told : Bool) (
     pub the_design : L.Design
     pub bytes : List ℕ
     pub ready : Ready job the_design
-    pub taken : Consumes old.left new.left bytes
-    pub rose : Rose old.reads new.reads
+    pub taken : Consumes old.source.left new.source.left bytes
+    pub rose : Rose old.source.faults new.source.faults
     pub may_go_on : L.MayGoOn job the_design bytes
     pub report_is : report ≡ read_failed_text
 
-  -- status 7: the job is done, and `out` failed behind a front of its text
+  -- status 7: the job is done, and `out` failed after a front of its text
   pub record BadWrite (out report : List ℕ) : Type 0 where
     pub fired : Bool
     pub whole : List ℕ
     pub was : List ℕ
     pub count : ℕ
     pub did : Done fired whole was
-    pub rose : Rose old.writes new.writes
+    pub rose : Rose old.out.faults new.out.faults
     pub front : out ≡ take count whole
     pub report_is : report ≡ write_failed_text
 
@@ -186,15 +182,33 @@ module _ (L : Layers) (content : List ℕ → Option (List ℕ)) (told : Bool) (
   Due reporting out report = ⊥
   Due memory out report = ⊥
 
-  -- the answer: what is due, whole; status 8: `out` whole and a front of the report, whose count rose; status 9: fronts of both or
-  -- nothing, behind allowed words
+  -- the counts of faults of the files, the source and `out` stand, but for that of a status's cause
+  abbrev pub FilesStand : Type 0
+  FilesStand = new.files.faults ≡ old.files.faults
+
+  abbrev pub SourceStands : Type 0
+  SourceStands = new.source.faults ≡ old.source.faults
+
+  abbrev pub OutStands : Type 0
+  OutStands = new.out.faults ≡ old.out.faults
+
+  abbrev pub OthersStand : Status → Type 0
+  OthersStand file = SourceStands × OutStands
+  OthersStand reading = FilesStand × OutStands
+  OthersStand writing = FilesStand × SourceStands
+  OthersStand _ = FilesStand × SourceStands × OutStands
+
+  -- the answer: what is due, whole, and no count rose but that of its cause; status 8: `out` whole and a front of the report, whose
+  -- count rose; status 9: fronts of both or nothing, after allowed words
   abbrev pub Answers : Status → Type 0
   Answers reporting =
-      Rose old.reports new.reports × (was : Status) × (out : List ℕ) × (report : List ℕ) × Due was out report
-      × Appends old.out new.out out × AppendsPart old.report new.report report
+      Rose old.report.faults new.report.faults × (was : Status) × (out : List ℕ) × (report : List ℕ) × Due was out report
+      × OthersStand was × Appends old.out.held new.out.held out × AppendsPart old.report.held new.report.held report
   Answers memory =
-      IsAllowed × ((Keeps old.out new.out × Keeps old.report new.report)
-      ⊎ ((was : Status) × (out : List ℕ) × (report : List ℕ) × Due was out report × AppendsPart old.out new.out out
-      × AppendsPart old.report new.report report))
-  Answers status = (out : List ℕ) × (report : List ℕ) × Due status out report × Appends old.out new.out out
-      × Appends old.report new.report report
+      IsAllowed × (new.report.faults ≡ old.report.faults)
+      × ((OthersStand memory × Keeps old.out.held new.out.held × Keeps old.report.held new.report.held)
+      ⊎ ((was : Status) × (out : List ℕ) × (report : List ℕ) × Due was out report × OthersStand was
+      × AppendsPart old.out.held new.out.held out × AppendsPart old.report.held new.report.held report))
+  Answers status =
+      (new.report.faults ≡ old.report.faults) × (out : List ℕ) × (report : List ℕ) × Due status out report × OthersStand status
+      × Appends old.out.held new.out.held out × Appends old.report.held new.report.held report

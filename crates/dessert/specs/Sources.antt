@@ -13,7 +13,7 @@ abbrev pub ends_line : List ℕ → Bool
 ends_line [] = false
 ends_line (b ∷ bs) = slice_index (b ∷ bs) (length bs) == 10
 
--- a file as it stands in the text of a design: with LF behind it, unless it ends with one
+-- a file as it stands in the text of a design: followed by LF, unless it ends with one
 abbrev pub closed : List ℕ → List ℕ
 closed file = if ends_line file then file else file ++ 10 ∷ []
 
@@ -45,8 +45,8 @@ pub record Origins : Type 0 where
 abbrev pub origins_of : List (List ℕ) → List (List ℕ) → Origins
 origins_of names files = record { names = names; counts = map line_count files }
 
--- where a line of the text stands: in the first file, if that has so many lines; else in the files behind it, with the first file's
--- lines taken off. Behind the last line the last file's lines are counted on, which no fault and no stop needs.
+-- where a line of the text stands: in the first file, if that has so many lines; else in the files after it, with the first file's
+-- lines taken off. After the last line the last file's lines are counted on, which no fault and no stop needs.
 abbrev pub spot_among : List (List ℕ) → List ℕ → ℕ → Spot
 spot_among [] counts line = spot [] line
 spot_among (name ∷ []) counts line = spot name line

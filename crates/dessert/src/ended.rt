@@ -2,7 +2,7 @@
 
 ghost use Rattle.std.specs.Prelude.{◌≡◌};
 ghost use Rattle.dessert.specs.Answer.{number};
-ghost use Rattle.dessert.specs.Ended.{status_of};
+ghost use Rattle.dessert.specs.Calls.Ended.{status_of};
 
 /// How a call ended.
 #[derive(Clone, Copy, Debug, PartialEq, Eq)]

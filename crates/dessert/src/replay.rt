@@ -1,12 +1,12 @@
 //! Running the last cycles of a run again, and writing their waveform.
 
-ghost use Rattle.std.specs.Prelude.{◌≡◌, ◌≢◌, ◌≤◌, ◌<◌, ◌+◌, ◌-◌, ◌^◌, ◌++◌, [], ℕ, List, IsTrue, OnOk, length, slice_index_or};
+ghost use Rattle.std.specs.Prelude.{◌≡◌, ◌≢◌, ◌≤◌, ◌<◌, ◌+◌, ◌++◌, [], ℕ, List, IsTrue, OnOk, length, slice_index_or};
 ghost use Rattle.std.specs.List.{concat};
-ghost use Rattle.std.specs.declared.option.Option.{Option};
 ghost use Rattle.flat_ir.specs.FlatRun as flat_run;
 ghost use Rattle.vcd_text.specs.declared.progress.Progress.TheVariants as progress;
-ghost use Rattle.dessert.specs.Again.{Stands, Goes, Shown, Waves, wave_until};
-ghost use Rattle.dessert.specs.Kept.{AreLong, Holds};
+ghost use Rattle.dessert.specs.Outside.{SinkAt, sink_at};
+ghost use Rattle.dessert.specs.Calls.Again.{Stands, Goes, Shown, Waves, wave_until};
+ghost use Rattle.dessert.specs.Calls.Kept.{AreLong, Holds};
 
 use crate::window::{Part, Window, unpack};
 use dt_io::outside::Sink;
@@ -29,8 +29,11 @@ pub fn write_window<K: Sink, L: Ledger>(
     steps: &mut Steps<L>,
 ) -> Result<(), VcdFault>
     requires kept { (rows : List (List ℕ)) × Holds flat.now rows window.now }
-    ensures { (rows : List (List ℕ)) → Holds flat.now rows window.now → window.now.end ≤ first + (window.now.older_count + window.now.newer_count) → first < length rows
-        → Waves (K.held out.old) (K.held out.new) (K.faults out.old) (K.faults out.new) (wave_until flat.now rows first (length rows)) result }
+    ensures waves { (rows : List (List ℕ)) → Holds flat.now rows window.now
+        → window.now.end ≤ first + (window.now.older_count + window.now.newer_count) → first < length rows
+        → Waves (sink_at K.Sink out.old) (sink_at K.Sink out.new) (wave_until flat.now rows first (length rows))
+        result }
+    ensures steps { steps.new ≤ steps.old + (window.now.older_count + window.now.newer_count) }
 {
     let Ok(writer) = VcdWriter::new(alloc, flat) else {
         return Err(VcdFault::Memory);
@@ -66,21 +69,24 @@ struct Replay<'a> {
 }
 
 impl Replay<'_> {
-    // Runs over rows that stand one behind another.
+    // Runs over rows, one after another.
     fn rows<K: Sink, L: Ledger>(
         &mut self,
         part: Part<'_>,
         out: &mut K,
         steps: &mut Steps<L>,
     ) -> Result<(), VcdFault>
-        requires part { (rows : List (List ℕ)) × (part.values.now ≡ concat rows) × (part.count ≡ length rows) × AreLong self.old.sim.flat.inputs rows }
-        requires room { self.old.sim.cycle + part.count ≤ 2 ^ 32 - 1 }
+        requires part { (rows : List (List ℕ)) × (part.values.now ≡ concat rows) × (part.count ≡ length rows)
+            × AreLong self.old.sim.flat.inputs rows }
+        requires room { self.old.sim.cycle + part.count ≤ u32.MAX }
         requires live { IsTrue self.old.writer.live × (self.old.writer.written ≢ progress.Nothing) }
-        ensures goes { (flat : flat_run.Flat) (rows front middle behind : List (List ℕ)) (held : Option (List ℕ)) → rows ≡ front ++ (middle ++ behind)
+        ensures goes { (flat : flat_run.Flat) (rows front middle later : List (List ℕ)) (start : SinkAt)
+            → rows ≡ front ++ (middle ++ later)
             → part.entry.values.now ≡ concat middle → part.entry.count ≡ length middle → AreLong flat.inputs middle
-            → Stands flat rows self.old.first (length front) held (K.held out.old) self.old.sim self.old.writer
-            → Goes flat rows self.old.first (length front + length middle) held (K.held out.new) (K.faults out.old) (K.faults out.new) self.new.sim self.new.writer result }
-        ensures later { K.faults out.old ≤ K.faults out.new }
+            → Stands flat rows self.old.first (length front) start (sink_at K.Sink out.old) self.old.sim self.old.writer
+            → Goes flat rows self.old.first (length front + length middle) start (sink_at K.Sink out.new)
+            self.new.sim self.new.writer result }
+        ensures steps { steps.new ≤ steps.old + part.entry.count }
         ensures live { OnOk result (IsTrue self.new.writer.live × (self.new.writer.written ≢ progress.Nothing)) }
         ensures first { self.new.first ≡ self.old.first }
         ensures flat { self.new.sim.flat ≡ self.old.sim.flat }
@@ -89,9 +95,9 @@ impl Replay<'_> {
         let inputs = self.row.len();
         let mut rest = part.values;
         for _ in 0..part.count {
-            let (now, behind) = rest.split_at(inputs);
+            let (now, later) = rest.split_at(inputs);
             self.cycle(now, out, steps)?;
-            rest = behind;
+            rest = later;
         }
         Ok(())
     }
@@ -104,12 +110,14 @@ impl Replay<'_> {
         steps: &mut Steps<L>,
     ) -> Result<(), VcdFault>
         requires row { length values.now ≡ self.old.sim.flat.inputs }
-        requires room { self.old.sim.cycle < 2 ^ 32 - 1 }
+        requires room { self.old.sim.cycle < u32.MAX }
         requires live { IsTrue self.old.writer.live × (self.old.writer.written ≢ progress.Nothing) }
-        ensures goes { (flat : flat_run.Flat) (rows : List (List ℕ)) (cycle : ℕ) (held : Option (List ℕ)) → slice_index_or rows cycle [] ≡ values.now
-            → Stands flat rows self.old.first cycle held (K.held out.old) self.old.sim self.old.writer
-            → Goes flat rows self.old.first (cycle + 1) held (K.held out.new) (K.faults out.old) (K.faults out.new) self.new.sim self.new.writer result }
-        ensures later { K.faults out.old ≤ K.faults out.new }
+        ensures goes { (flat : flat_run.Flat) (rows : List (List ℕ)) (cycle : ℕ) (start : SinkAt)
+            → slice_index_or rows cycle [] ≡ values.now
+            → Stands flat rows self.old.first cycle start (sink_at K.Sink out.old) self.old.sim self.old.writer
+            → Goes flat rows self.old.first (cycle + 1) start (sink_at K.Sink out.new) self.new.sim self.new.writer
+            result }
+        ensures steps { steps.new ≡ steps.old + 1 }
         ensures live { OnOk result (IsTrue self.new.writer.live × (self.new.writer.written ≢ progress.Nothing)) }
         ensures first { self.new.first ≡ self.old.first }
         ensures flat { self.new.sim.flat ≡ self.old.sim.flat }
@@ -132,10 +140,10 @@ fn show<K: Sink>(
 ) -> Result<(), VcdFault>
     requires live { IsTrue writer.old.live × (writer.old.written ≢ progress.Nothing) }
     requires design { sim.now.flat ≡ writer.old.design }
-    ensures goes { (flat : flat_run.Flat) (rows : List (List ℕ)) (cycle : ℕ) (held : Option (List ℕ)) → slice_index_or rows cycle [] ≡ sim.now.row
-        → Stands flat rows first cycle held (K.held out.old) sim.now writer.old
-        → Shown flat rows first cycle held (K.held out.new) (K.faults out.old) (K.faults out.new) writer.new result }
-    ensures later { K.faults out.old ≤ K.faults out.new }
+    ensures goes { (flat : flat_run.Flat) (rows : List (List ℕ)) (cycle : ℕ) (start : SinkAt)
+        → slice_index_or rows cycle [] ≡ sim.now.row
+        → Stands flat rows first cycle start (sink_at K.Sink out.old) sim.now writer.old
+        → Shown flat rows first cycle start (sink_at K.Sink out.new) writer.new result }
     ensures live { OnOk result (IsTrue writer.new.live × (writer.new.written ≢ progress.Nothing)) }
     ensures design { writer.new.design ≡ writer.old.design }
 {

@@ -3,8 +3,9 @@
 ghost use Rattle.std.specs.Prelude.{◌≡◌, [], IsTrue, length};
 ghost use Rattle.flat_ir.specs.Names.{input_names};
 ghost use Rattle.stim.specs.Reads.{Reads};
-ghost use Rattle.dessert.specs.Ran.{RanTo};
-ghost use Rattle.dessert.specs.Rows.{RanAll};
+ghost use Rattle.dessert.specs.Outside.{source_at};
+ghost use Rattle.dessert.specs.Calls.Ran.{RanTo};
+ghost use Rattle.dessert.specs.Calls.Rows.{RanAll, StepsEach};
 
 use crate::run::Run;
 use dt_core::fault::NoMemory;
@@ -21,7 +22,7 @@ pub enum RowsFault {
     Memory,
 }
 
-/// Runs over every row of the source, also behind a failure.
+/// Runs over every row of the source; after a failure the rows are read and checked alone.
 pub fn run_rows<S: Source, L: Ledger>(
     alloc: Global,
     reader: &mut StimReader,
@@ -33,7 +34,9 @@ pub fn run_rows<S: Source, L: Ledger>(
     requires reads { Reads (input_names run.old.flat.signals) reader.old [] [] }
     requires ran { RanTo run.old.flat [] run.old }
     requires inputs { run.old.flat.inputs ≡ length (input_names run.old.flat.signals) }
-    ensures ran { RanAll run.old.flat (input_names run.old.flat.signals) (S.left source.old) (S.left source.new) (S.faults source.old) (S.faults source.new) run.new result }
+    ensures ran { let seen = source_at S.Source in
+        RanAll run.old.flat (input_names run.old.flat.signals) (seen source.old) (seen source.new) run.new result }
+    ensures steps { StepsEach (source_at S.Source source.old) (source_at S.Source source.new) steps.old steps.new }
     ensures flat { run.new.flat ≡ run.old.flat }
     ensures period { run.new.window.period ≡ run.old.window.period }
 {

@@ -1,9 +1,10 @@
 //! A run over rows as they come: it keeps its state, the first failure, and the last rows up to it.
 
-ghost use Rattle.std.specs.Prelude.{◌≡◌, ◌<◌, ◌≤◌, ◌^◌, ◌-◌, ◌+◌, ◌++◌, ◌∷◌, [], ℕ, List, length, slice_index, IfOk, OnOk, MatchOption, Some, None};
+ghost use Rattle.std.specs.Prelude.{◌≡◌, ◌<◌, ◌≤◌, ◌^◌, ◌+◌, ◌++◌, ◌∷◌, [], ℕ, List, length, slice_index, IfOk, OnOk, IsSome, MatchOption, Some, None};
 ghost use Rattle.flat_ir.specs.FlatRun as flat_run;
-ghost use Rattle.dessert.specs.Ran.{HasRun, RanTo};
-ghost use Rattle.dessert.specs.Ran as ran;
+ghost use Rattle.dessert.specs.Words.{most_lag};
+ghost use Rattle.dessert.specs.Steps as bound;
+ghost use Rattle.dessert.specs.Calls.Ran.{HasRun, RanTo, Takes};
 
 use crate::window::Window;
 use dt_core::fault::NoMemory;
@@ -24,7 +25,7 @@ pub struct Failure {
 }
 
 impl Model for Failure {
-    ghost use Rattle.dessert.specs.Progress as progress;
+    ghost use Rattle.dessert.specs.Calls.Progress as progress;
 
     ghost Value = { progress.Failure };
 
@@ -41,7 +42,7 @@ pub struct Run<'a> {
 }
 
 impl<'a> Model for Run<'a> {
-    ghost use Rattle.dessert.specs.Progress as progress;
+    ghost use Rattle.dessert.specs.Calls.Progress as progress;
 
     ghost Value = { progress.Progress };
 
@@ -51,10 +52,10 @@ impl<'a> Model for Run<'a> {
 impl<'a> Run<'a> {
     /// The run over no row yet. It will keep the rows that a window of this lag needs.
     pub fn start(alloc: Global, flat: &'a Flat, lag: u32) -> Result<Run<'a>, NoMemory>
-        requires { lag < 2 ^ 32 - 1 }
+        requires { lag ≤ most_lag }
         ensures ran { IfOk result (λ r. RanTo flat.now [] r) }
         ensures flat { IfOk result (λ r. r.flat ≡ flat.now) }
-        ensures period { IfOk result (λ r. lag < r.window.period) }
+        ensures period { IfOk result (λ r. r.window.period ≡ bound.period lag) }
     {
         let sim = Sim::start(alloc, flat, &Order::empty(alloc))?;
         let window = Window::start(alloc, sim.registers(), lag)?;
@@ -66,7 +67,7 @@ impl<'a> Run<'a> {
         })
     }
 
-    /// Goes on over one row more. Behind the first failure nothing is computed, and nothing more is kept.
+    /// Goes on over one row more. After the first failure nothing is computed, and nothing more is kept.
     pub fn take<L: Ledger>(
         &mut self,
         alloc: Global,
@@ -75,11 +76,15 @@ impl<'a> Run<'a> {
     ) -> Result<(), NoMemory>
         requires row { length row.now ≡ self.old.flat.inputs }
         requires bytes { (k : ℕ) → k < length row.now → slice_index row.now k < 256 }
-        requires room { (self.old.cycles < 2 ^ 32 - 1) × (self.old.cycle < 2 ^ 32 - 1) × (self.old.window.end < 2 ^ 32 - 1) }
+        requires room { (self.old.cycles < u32.MAX) × (self.old.cycle < u32.MAX) × (self.old.window.end < u32.MAX) }
         requires some { 1 ≤ self.old.window.period }
-        ensures ran { OnOk result ((flat : flat_run.Flat) (rows : List (List ℕ)) → RanTo flat rows self.old → RanTo flat (rows ++ row.now ∷ []) self.new) }
+        ensures ran { OnOk result ((flat : flat_run.Flat) (rows : List (List ℕ)) → RanTo flat rows self.old
+            → RanTo flat (rows ++ row.now ∷ []) self.new) }
         ensures flat { self.new.flat ≡ self.old.flat }
         ensures period { self.new.window.period ≡ self.old.window.period }
+        ensures rests { IsSome self.old.failure
+            → (self.new.state ≡ self.old.state) × (self.new.cycle ≡ self.old.cycle) × (steps.new ≡ steps.old) }
+        ensures steps { steps.new ≤ steps.old + 1 }
     {
         self.run_row(alloc, row, steps)?;
         self.cycles += 1;
@@ -95,12 +100,15 @@ impl<'a> Run<'a> {
     ) -> Result<(), NoMemory>
         requires row { length row.now ≡ self.old.flat.inputs }
         requires bytes { (k : ℕ) → k < length row.now → slice_index row.now k < 256 }
-        requires room { (self.old.cycle < 2 ^ 32 - 1) × (self.old.window.end < 2 ^ 32 - 1) }
+        requires room { (self.old.cycle < u32.MAX) × (self.old.window.end < u32.MAX) }
         requires some { 1 ≤ self.old.window.period }
-        ensures ran { OnOk result ((flat : flat_run.Flat) (rows : List (List ℕ)) → HasRun flat rows self.old → HasRun flat (rows ++ row.now ∷ []) self.new) }
+        ensures ran { OnOk result ((flat : flat_run.Flat) (rows : List (List ℕ)) → HasRun flat rows self.old
+            → HasRun flat (rows ++ row.now ∷ []) self.new) }
         ensures flat { self.new.flat ≡ self.old.flat }
         ensures period { self.new.window.period ≡ self.old.window.period }
         ensures cycles { self.new.cycles ≡ self.old.cycles }
+        ensures rests { IsSome self.old.failure → (self.new ≡ self.old) × (steps.new ≡ steps.old) }
+        ensures steps { steps.new ≤ steps.old + 1 }
     {
         if self.failure.is_some() {
             return Ok(());
@@ -147,9 +155,11 @@ fn step<L: Ledger>(
     steps: &mut Steps<L>,
 ) -> Result<Option<Failure>, NoMemory>
     requires row { length row.now ≡ sim.old.flat.inputs }
-    requires room { sim.old.cycle < 2 ^ 32 - 1 }
-    ensures steps { IfOk result (λ found. ran.Steps sim.old.flat row.now sim.old.state sim.new.state sim.old.cycle sim.new.cycle found) }
+    requires room { sim.old.cycle < u32.MAX }
+    ensures takes { IfOk result (λ found.
+        Takes sim.old.flat row.now sim.old.state sim.new.state sim.old.cycle sim.new.cycle found) }
     ensures flat { sim.new.flat ≡ sim.old.flat }
+    ensures steps { steps.new ≡ steps.old + 1 }
 {
     sim.settle(row, steps);
     if sim.fires() {

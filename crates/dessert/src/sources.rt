@@ -1,12 +1,14 @@
 //! The files of a design: the text that they make together, and where each of its lines stands.
 
-ghost use Rattle.std.specs.Prelude.{◌≡◌, ◌≤◌, ◌<◌, ◌-◌, ◌^◌, ◌++◌, ◌==◌, ℕ, List, length, OnOk, IfOk, IfErr};
+ghost use Rattle.std.specs.Prelude.{◌≡◌, ◌≤◌, ◌+◌, ◌++◌, ◌==◌, ℕ, List, length, OnOk, IfOk, IfErr};
 ghost use Rattle.std.specs.List.{count_by};
 ghost use Rattle.dt_io.specs.declared.outside.LoadFault.TheVariants as load;
-ghost use Rattle.dessert.specs.Loading.{LoadsOne, IsLoaded, NotLoaded};
+ghost use Rattle.dessert.specs.Outside.{files_at};
+ghost use Rattle.dessert.specs.Words.{most_files};
 ghost use Rattle.dessert.specs.Named.{named};
 ghost use Rattle.dessert.specs.Sources as sources;
-ghost use Rattle.dessert.specs.Sources.{closed, spot_in, SpotsAreRight};
+ghost use Rattle.dessert.specs.Sources.{most_file, closed, spot_in, SpotsAreRight};
+ghost use Rattle.dessert.specs.Calls.Loading.{LoadsOne, IsLoaded, NotLoaded};
 
 use dt_core::limits::MAX_FILE;
 use dt_io::outside::{Files, LoadFault};
@@ -79,7 +81,7 @@ pub enum SourcesFault<'a> {
     Failed(&'a str),
     /// The file of this name has more than 4,194,304 bytes.
     TooLong(&'a str),
-    /// There wasn't enough memory.
+    /// Out of memory.
     Memory,
 }
 
@@ -89,10 +91,13 @@ pub fn load_sources<'a, F: Files>(
     names: &'a [&'a str],
     files: &mut F,
 ) -> Result<Sources<'a>, SourcesFault<'a>>
-    requires few { length names.now ≤ 16 }
-    ensures loaded { IfOk result (λ s. IsLoaded (F.content files.old) (F.told files.old) (named names.now) s.text.items s.origins.counts) }
+    requires few { length names.now ≤ most_files }
+    ensures loaded { let seen = files_at F.Files in
+        IfOk result (λ s. IsLoaded (seen files.old) (named names.now) s.text.items s.origins.counts) }
     ensures names { IfOk result (λ s. s.origins.names ≡ named names.now) }
-    ensures fault { IfErr result (NotLoaded (F.content files.old) (F.told files.old) (named names.now) (F.faults files.old) (F.faults files.new)) }
+    ensures same { OnOk result (files_at F.Files files.new ≡ files_at F.Files files.old) }
+    ensures fault { let seen = files_at F.Files in
+        IfErr result (NotLoaded (seen files.old) (seen files.new) (named names.now)) }
 {
     let mut text = Vec::new(alloc);
     let mut counts = Vec::new(alloc);
@@ -113,11 +118,10 @@ pub fn load_sources<'a, F: Files>(
 
 // Appends a file to the text, closed, and counts its lines.
 fn load_one<F: Files>(files: &mut F, name: &str, text: &mut Vec<u8>) -> Result<u32, LoadFault>
-    requires room { length text.old.items < 2 ^ 32 - 4194305 }
-    ensures loads { LoadsOne (F.told files.old) (F.content files.old name.now) text.old.items text.new.items (F.faults files.old) (F.faults files.new) result }
-    ensures kept { F.content files.new ≡ F.content files.old }
-    ensures told { F.told files.new ≡ F.told files.old }
-    ensures later { F.faults files.old ≤ F.faults files.new }
+    requires room { length text.old.items + (most_file + 1) ≤ u32.MAX }
+    ensures loads { let seen = files_at F.Files in
+        LoadsOne (seen files.old) (seen files.new) name.now text.old.items text.new.items result }
+    ensures same { OnOk result (files_at F.Files files.new ≡ files_at F.Files files.old) }
 {
     let start = text.len();
     files.load(name, text, MAX_FILE)?;
@@ -128,7 +132,8 @@ fn load_one<F: Files>(files: &mut F, name: &str, text: &mut Vec<u8>) -> Result<u
 // Appends LF to a text, unless what stands in it from `start` on ends with one.
 fn close(text: &mut Vec<u8>, start: usize) -> Result<(), LoadFault>
     requires { start ≤ length text.old.items }
-    ensures closes { OnOk result ((front file : List ℕ) → text.old.items ≡ front ++ file → length front ≡ start → text.new.items ≡ front ++ closed file) }
+    ensures closes { OnOk result ((front file : List ℕ) → text.old.items ≡ front ++ file → length front ≡ start
+        → text.new.items ≡ front ++ closed file) }
     ensures fails { IfErr result (λ e. e ≡ load.Memory) }
 {
     if ends_line(text.split_at(start).1) {
@@ -152,7 +157,7 @@ pub fn ends_line(bytes: &[u8]) -> bool
 
 // How many LF stand in the bytes.
 fn count_lines(bytes: &[u8]) -> u32
-    requires { length bytes.now < 2 ^ 32 }
+    requires { length bytes.now ≤ u32.MAX }
     ensures { result ≡ count_by (λ b. b == 10) bytes.now }
 {
     let mut count = 0;

@@ -1,10 +1,8 @@
-//! The top call over objects in memory.
+//! The top call over objects in memory: tables of calls, and what comes of each.
 
-ghost use Rattle.std.specs.Prelude.{◌≡◌, ◌<◌, ◌≤◌};
+ghost use Rattle.std.specs.Prelude.{◌≡◌, ◌<◌};
 
-mod failed;
-mod sources;
-mod windows;
+mod texts;
 
 use crate::quiet_main;
 use dt_core::text::Text;
@@ -14,292 +12,447 @@ use std::alloc::Global;
 use std::marker::Brand;
 use std::sync::ledger::{Blank, Ledger};
 use std::test::*;
+use texts::{ALONE, COUNTER, DEFINED, GUARDED, HIT, LIMITED, WAVE_0, WAVE_4};
 
-const COUNTER: &[u8] = b"module cnt(input clk, input rst, input en, output reg [3:0] r);
-  always @(posedge clk) begin
-    if (rst)
-      r <= 4'd0;
-    else if (en)
-      r <= r + 4'd1;
-    if (r == 4'd9) begin
-      $display(\"r hit %0d\", r);
-      $stop;
-    end
-  end
-endmodule
-";
+type Words = &'static [&'static str];
 
-// How long the waveform of the counter's cycles from 0 to 9 is.
-const WAVE_LENGTH: usize = 422;
+type Files = &'static [(&'static str, &'static [u8])];
 
-const HIT: &[u8] = b"failure at cycle 9\nstop in cnt at cnt.v:9\nr hit 9\nwindow 0 to 9\n";
+type Bytes = &'static [u8];
 
-// One call: what it is given, and which calls to the outside fail, 0 for none.
+// One call, and what comes of it.
 #[derive(Clone, Copy)]
-struct Call<'a> {
-    words: &'a [&'a str],
-    files: &'a [(&'a str, &'a [u8])],
-    stimulus: &'a [u8],
-    load: u32,
-    read: u32,
-    out: u32,
-    report: u32,
-}
-
-// What came of it.
-#[derive(Drop)]
-struct Came {
+struct Case {
+    words: Words,
+    files: Files,
+    // The stimulus: the header, so many rows `1 0`, so many rows `0 1`, and what follows.
+    held: u32,
+    counted: u32,
+    tail: Bytes,
+    // The load, the read, the write and the write of the report that fail, from 1, or 0 for none.
+    fails: [u32; 4],
     status: u8,
-    out: Vec<u8>,
-    report: Vec<u8>,
+    text: Bytes,
+    // How the waveform begins and ends, and how many times stand in it.
+    begins: Bytes,
+    ends: Bytes,
+    times: u32,
 }
 
-// A copy of the bytes.
-fn bytes_of(alloc: Global, bytes: &[u8]) -> Result<Vec<u8>, Fail> {
+// The counter over 20 rows, with a window of five cycles.
+fn hits() -> Case {
+    Case {
+        words: &["sim", "lag=4", "cnt.v"],
+        files: &[("cnt.v", COUNTER), ("none.v", b"")],
+        held: 0,
+        counted: 20,
+        tail: b"",
+        fails: [0, 0, 0, 0],
+        status: 1,
+        text: HIT,
+        begins: WAVE_4,
+        ends: WAVE_4,
+        times: 10,
+    }
+}
+
+// The counter over so many rows, with no waveform.
+fn plain(counted: u32, status: u8, text: Bytes) -> Case {
+    Case {
+        counted,
+        status,
+        text,
+        begins: b"",
+        ends: b"",
+        times: 0,
+        ..hits()
+    }
+}
+
+// The counter over three rows, in which nothing fires.
+fn quiet() -> Case {
+    plain(3, 0, b"no failure in 3 cycles\n")
+}
+
+// Appends a line so many times.
+fn push_lines(text: &mut Vec<u8>, line: &[u8], count: u32) -> Result<(), Fail> {
+    for _ in 0..count {
+        text.extend_from_slice(line)?;
+    }
+    Ok(())
+}
+
+// The stimulus of a case.
+fn stimulus_of(alloc: Global, case: &Case) -> Result<Vec<u8>, Fail> {
+    let mut text = Vec::new(alloc);
+    text.extend_from_slice(b"stimulus 1\ninputs rst en\n")?;
+    push_lines(&mut text, b"1 0\n", case.held)?;
+    push_lines(&mut text, b"0 1\n", case.counted)?;
+    text.extend_from_slice(case.tail)?;
+    Ok(text)
+}
+
+// A text of these bytes.
+fn text_of(alloc: Global, bytes: &[u8]) -> Result<Text, Fail> {
     let mut all = Vec::new(alloc);
     all.extend_from_slice(bytes)?;
-    Ok(all)
-}
-
-// The calls that fail: this one, from 1, or none for 0.
-fn failing(alloc: Global, call: u32) -> Result<Vec<u32>, Fail> {
-    let mut calls = Vec::new(alloc);
-    if call != 0 {
-        calls.push(call)?;
-    }
-    Ok(calls)
+    Ok(Text::of_bytes(all))
 }
 
 // The files of these names with these bytes.
 fn files_of(alloc: Global, contents: &[(&str, &[u8])], load: u32) -> Result<MemFiles, Fail> {
     let mut files = Vec::new(alloc);
     for (name, content) in contents.iter() {
-        files.push((
-            Text::of_bytes(bytes_of(alloc, name.as_bytes())?),
-            Text::of_bytes(bytes_of(alloc, content)?),
-        ))?;
+        files.push((text_of(alloc, name.as_bytes())?, text_of(alloc, content)?))?;
     }
-    Ok(MemFiles::new(files, failing(alloc, load)?))
+    Ok(MemFiles::new(files, vec![in alloc; load]?))
 }
 
-// Asks the top call; its steps count on a ledger of their own.
-fn ask(alloc: Global, call: Call) -> Result<Came, Fail> {
-    ask_counted::<Brand>(alloc, call, Blank::new(1))
+// A sink with room for the texts, which takes 16 bytes at a time.
+fn sink_of(alloc: Global, fails: u32) -> Result<MemSink, Fail> {
+    match MemSink::new(alloc, 16384, 16, vec![in alloc; fails]?) {
+        Ok(sink) => Ok(sink),
+        Err(_) => Err("no memory".into()),
+    }
 }
 
-fn ask_counted<L: Ledger>(alloc: Global, call: Call, blank: Blank) -> Result<Came, Fail>
+// How many times stand in a waveform.
+fn times(wave: &[u8]) -> u32 {
+    let mut count: u32 = 0;
+    let mut begins = true;
+    for byte in wave {
+        if begins && *byte == b'#' {
+            count = count.saturating_add(1);
+        }
+        begins = *byte == b'\n';
+    }
+    count
+}
+
+// Whether the waveform is the one of a case.
+fn is_wave(case: &Case, wave: &[u8]) -> bool {
+    wave.starts_with(case.begins)
+        && wave.ends_with(case.ends)
+        && wave.is_empty() == case.begins.is_empty()
+        && times(wave) == case.times
+}
+
+// Whether the top call answers as the case says.
+fn holds(alloc: Global, case: &Case) -> Result<bool, Fail> {
+    answers(alloc, case, case.words)
+}
+
+// The same with other words.
+fn answers(alloc: Global, case: &Case, words: &[&str]) -> Result<bool, Fail> {
+    answers_counted::<Brand>(alloc, case, words, Blank::new(1))
+}
+
+// The same; its steps count on a ledger of their own.
+fn answers_counted<L: Ledger>(
+    alloc: Global,
+    case: &Case,
+    words: &[&str],
+    blank: Blank,
+) -> Result<bool, Fail>
     requires name { blank.name ≡ L.name }
     requires parts { (blank.parts ≡ L.parts) × (0 < blank.parts) }
 {
-    let mut files = files_of(alloc, call.files, call.load)?;
-    let mut source = MemSource::new(
-        bytes_of(alloc, call.stimulus)?,
-        16,
-        failing(alloc, call.read)?,
-    );
-    let Ok(mut out) = MemSink::new(alloc, 16384, 16, failing(alloc, call.out)?) else {
-        return Err("no memory".into());
-    };
-    let Ok(mut report) = MemSink::new(alloc, 512, 16, failing(alloc, call.report)?) else {
-        return Err("no memory".into());
-    };
+    let mut files = files_of(alloc, case.files, case.fails[0])?;
+    let stimulus = stimulus_of(alloc, case)?;
+    let mut source = MemSource::new(stimulus, 16, vec![in alloc; case.fails[1]]?);
+    let mut out = sink_of(alloc, case.fails[2])?;
+    let mut report = sink_of(alloc, case.fails[3])?;
     let mut steps = Steps::<L>::new(blank);
     let status = quiet_main(
         alloc,
-        call.words,
+        words,
         &mut files,
         &mut source,
         &mut out,
         &mut report,
         &mut steps,
     );
-    Ok(Came {
-        status,
-        out: bytes_of(alloc, out.bytes())?,
-        report: bytes_of(alloc, report.bytes())?,
-    })
+    Ok(status == case.status && report.bytes() == case.text && is_wave(case, out.bytes()))
 }
 
-// A stimulus of the counter with so many rows `0 1`.
-fn counted(alloc: Global, rows: u32) -> Result<Vec<u8>, Fail> {
-    let mut text = bytes_of(alloc, b"stimulus 1\ninputs rst en\n")?;
-    for _ in 0..rows {
-        text.extend_from_slice(b"0 1\n")?;
-    }
-    Ok(text)
-}
-
-fn counter_call<'a>(stimulus: &'a [u8]) -> Call<'a> {
-    Call {
-        words: &["sim", "cnt.v"],
-        files: &[("cnt.v", COUNTER)],
-        stimulus,
-        load: 0,
-        read: 0,
-        out: 0,
-        report: 0,
-    }
-}
-
-#[test]
-fn the_counter_fails_first_in_cycle_nine(rt: HostRuntime) -> Result<(), Fail> {
-    let cases: [(u32, u8, usize, &[u8]); 4] = [
-        (20, 1, WAVE_LENGTH, HIT),
-        (10, 1, WAVE_LENGTH, HIT),
-        (9, 0, 0, b"no failure in 9 cycles\n"),
-        (0, 0, 0, b"no failure in 0 cycles\n"),
-    ];
-    for (rows, status, length, report) in cases.iter() {
-        let stimulus = counted(rt.alloc(), *rows)?;
-        let came = ask(rt.alloc(), counter_call(&stimulus))?;
-        assert_eq!(rt; came.status, *status, "{rows} rows");
-        assert_eq!(rt; came.report.as_slice(), *report, "{rows} rows");
-        assert_eq!(rt; came.out.len(), *length, "{rows} rows");
-    }
-    Ok(())
-}
-
-const WORDS: [(&[&str], u8); 20] = [
-    (&["sim", "cnt.v"], 0),
-    (&["sim", "lag=0", "cnt.v"], 0),
-    (&["sim", "lag=64", "cnt.v"], 0),
-    (&["sim", "lag=16384", "cnt.v"], 0),
-    (&["sim", "lag=16385", "cnt.v"], 2),
-    (&["sim", "lag=99999999999999999999", "cnt.v"], 2),
-    (&["sim", "lag=04", "cnt.v"], 2),
-    (&["sim", "lag=", "cnt.v"], 2),
-    (&["sim", "lag=+4", "cnt.v"], 2),
-    (&["sim", "lag=4x", "cnt.v"], 2),
-    (&["sim", "lags=4", "cnt.v"], 2),
-    (&["sim", "lag=4"], 2),
-    (&["sim", "lag=4", "lag=4", "cnt.v"], 2),
-    (&["sim", "cnt.v", "lag=4"], 2),
-    (&["sim", "cnt.v", "lag=4", "none.v"], 2),
-    (&["sim", "cnt.v", ""], 2),
-    (&["sim"], 2),
-    (&[], 2),
-    (&["run", "cnt.v"], 2),
-    (&["sim", "none.v", "cnt.v"], 0),
+const ALLOWED: [Words; 4] = [
+    &["sim", "cnt.v"],
+    &["sim", "lag=0", "cnt.v"],
+    &["sim", "lag=16384", "cnt.v"],
+    &["sim", "none.v", "cnt.v"],
 ];
+
+const REFUSED: [Words; 14] = [
+    &["sim", "lag=16385", "cnt.v"],
+    &["sim", "lag=99999999999999999999", "cnt.v"],
+    &["sim", "lag=04", "cnt.v"],
+    &["sim", "lag=", "cnt.v"],
+    &["sim", "lag=+4", "cnt.v"],
+    &["sim", "lag=4x", "cnt.v"],
+    &["sim", "lags=4", "cnt.v"],
+    &["sim", "lag=4"],
+    &["sim", "lag=4", "lag=4", "cnt.v"],
+    &["sim", "cnt.v", "lag=4"],
+    &["sim", "cnt.v", ""],
+    &["sim"],
+    &[],
+    &["run", "cnt.v"],
+];
+
+// Whether each of these words is answered as the case says.
+fn are_answered(alloc: Global, words: &[Words], case: Case) -> Result<bool, Fail> {
+    for words in words {
+        if !holds(alloc, &Case { words, ..case })? {
+            return Ok(false);
+        }
+    }
+    Ok(true)
+}
 
 #[test]
 fn words_have_one_form(rt: HostRuntime) -> Result<(), Fail> {
-    let whole = counted(rt.alloc(), 3)?;
-    let well = Call {
-        files: &[("cnt.v", COUNTER), ("none.v", b"")],
-        ..counter_call(&whole)
-    };
-    for (words, status) in WORDS.iter() {
-        let came = ask(
-            rt.alloc(),
-            Call {
-                words: *words,
-                ..well
-            },
-        )?;
-        assert_eq!(rt; came.status, *status);
-    }
+    assert!(rt; are_answered(rt.alloc(), &ALLOWED, quiet())?);
+    assert!(rt; are_answered(rt.alloc(), &REFUSED, plain(3, 2, b"usage\n"))?);
     Ok(())
 }
 
-// Whether a call ends with this status and report, and writes no output.
-fn is_refused(alloc: Global, call: Call<'_>, status: u8, report: &[u8]) -> Result<bool, Fail> {
-    let came = ask(alloc, call)?;
-    Ok(came.status == status && came.report.as_slice() == report && came.out.is_empty())
-}
+// Files of which one is refused, in order of the words, and the report.
+const FAULTS: [(Words, Files, Bytes); 12] = [
+    (&["sim", "m.v"], &[("m.v", b"")], b"design: NotYetBuilt\n"),
+    (
+        &["sim", "m.v"],
+        &[("m.v", b"module m; endmodule\n")],
+        b"design: NotYetBuilt\n",
+    ),
+    (
+        &["sim", "m.v"],
+        &[("m.v", b"`define A\n")],
+        b"design: NotYetBuilt\n",
+    ),
+    (
+        &["sim", "m.v"],
+        &[("m.v", b"wire `FOO;\n")],
+        b"design: m.v:1: UnknownMacro\n",
+    ),
+    (
+        &["sim", "x.v"],
+        &[("x.v", b"`ifdef A\n`else\n")],
+        b"design: x.v:1: Unbalanced\n",
+    ),
+    (
+        &["sim", "a", "b"],
+        &[("a", b"\n`FOO"), ("b", b"`BAR\n")],
+        b"design: a:2: UnknownMacro\n",
+    ),
+    (
+        &["sim", "a", "b"],
+        &[("a", b"module a"), ("b", b"(\n\n/*")],
+        b"design: b:3: OpenComment\n",
+    ),
+    (
+        &["sim", "a", "b"],
+        &[("a", b"`ifdef A"), ("b", b"`FOO\n")],
+        b"design: a:1: Unbalanced\n",
+    ),
+    (
+        &["sim", "a", "b"],
+        &[("a", b"`define W 4'd\n"), ("b", b"\n\n`W")],
+        b"design: b:3: BadNumber\n",
+    ),
+    (
+        &["sim", "a", "b"],
+        &[("a", b"1\n2\n3\n"), ("b", b"\"open\n")],
+        b"design: b:1: OpenString\n",
+    ),
+    (
+        &["sim", "a", "b"],
+        &[("a", b"1\n2\n3"), ("b", b"129'd1")],
+        b"design: b:1: TooWide\n",
+    ),
+    (
+        &["sim", "a", "b"],
+        &[("a", b"1\n2\n4'q3\n"), ("b", b"")],
+        b"design: a:3: BadToken\n",
+    ),
+];
 
 #[test]
-fn words_files_and_reading_are_refused(rt: HostRuntime) -> Result<(), Fail> {
-    let whole = counted(rt.alloc(), 20)?;
-    let well = counter_call(&whole);
-    let sim: &[&str] = &["sim"];
-    let other: &[&str] = &["sim", "m.v"];
-    let (unworded, unnamed) = (
-        Call { words: sim, ..well },
-        Call {
-            words: other,
-            ..well
-        },
-    );
-    let unloaded = Call { load: 1, ..well };
-    let unread = Call { read: 2, ..well };
-    assert!(rt; is_refused(rt.alloc(), unworded, 2, b"usage\n")?);
-    assert!(rt; is_refused(rt.alloc(), unnamed, 5, b"file m.v: failed\n")?);
-    assert!(rt; is_refused(rt.alloc(), unloaded, 5, b"file cnt.v: failed\n")?);
-    assert!(rt; is_refused(rt.alloc(), unread, 6, b"input: read failed\n")?);
-    Ok(())
-}
-
-#[test]
-fn a_design_that_is_not_built_is_refused(rt: HostRuntime) -> Result<(), Fail> {
-    let whole = counted(rt.alloc(), 20)?;
-    let texts: [&[u8]; 3] = [b"", b"module m; endmodule\n", b"`define A\n"];
-    for text in texts {
-        let call = Call {
-            files: &[("cnt.v", text)],
-            ..counter_call(&whole)
+fn a_fault_has_its_file_and_line(rt: HostRuntime) -> Result<(), Fail> {
+    for (words, files, text) in FAULTS.iter() {
+        let case = Case {
+            words: *words,
+            files: *files,
+            ..plain(3, 3, *text)
         };
-        assert!(rt; is_refused(rt.alloc(), call, 3, b"design: NotYetBuilt\n")?);
+        assert!(rt; holds(rt.alloc(), &case)?);
+    }
+    Ok(())
+}
+
+// The load and the write of the report that fail, of three files; the status, and the report.
+const LOADS: [(u32, u32, u8, Bytes); 5] = [
+    (1, 0, 5, b"file a.v: failed\n"),
+    (2, 0, 5, b"file b.v: failed\n"),
+    (3, 0, 5, b"file cnt.v: failed\n"),
+    (4, 0, 0, b"no failure in 3 cycles\n"),
+    (1, 1, 8, b""),
+];
+
+// Files are loaded in their order, each once.
+#[test]
+fn the_first_file_that_is_not_loaded_is_named(rt: HostRuntime) -> Result<(), Fail> {
+    for (load, write, status, text) in LOADS.iter() {
+        let case = Case {
+            words: &["sim", "a.v", "b.v", "cnt.v"],
+            files: &[("cnt.v", COUNTER), ("b.v", b""), ("a.v", b"// a\n")],
+            fails: [*load, 0, 0, *write],
+            ..plain(3, *status, *text)
+        };
+        assert!(rt; holds(rt.alloc(), &case)?);
+    }
+    Ok(())
+}
+
+// The rows, what follows them, and the read that fails; the status, and the report.
+const READS: [(u32, Bytes, u32, u8, Bytes); 9] = [
+    (0, b"", 0, 0, b"no failure in 0 cycles\n"),
+    (9, b"", 0, 0, b"no failure in 9 cycles\n"),
+    (3, b"0 1", 0, 4, b"stimulus: NotYetBuilt\n"),
+    (3, b"0 2\n", 0, 4, b"stimulus: NotYetBuilt\n"),
+    (20, b"0 x\n", 0, 4, b"stimulus: NotYetBuilt\n"),
+    (3, b"", 1, 6, b"input: read failed\n"),
+    (3, b"", 4, 6, b"input: read failed\n"),
+    (3, b"", 5, 0, b"no failure in 3 cycles\n"),
+    (20, b"", 8, 6, b"input: read failed\n"),
+];
+
+#[test]
+fn the_stimulus_is_read_to_its_end(rt: HostRuntime) -> Result<(), Fail> {
+    for (counted, tail, read, status, text) in READS.iter() {
+        let case = Case {
+            tail: *tail,
+            fails: [0, *read, 0, 0],
+            ..plain(*counted, *status, *text)
+        };
+        assert!(rt; holds(rt.alloc(), &case)?);
+    }
+    Ok(())
+}
+
+// The write and the write of the report that fail; the status, the report, and the waveform.
+const WRITES: [(u32, u32, u8, Bytes, Bytes, u32); 6] = [
+    (0, 0, 1, HIT, WAVE_4, 10),
+    (1, 0, 7, b"output: write failed\n", b"", 0),
+    (2, 0, 7, b"output: write failed\n", b"$version dessert", 0),
+    (2, 2, 8, b"output: write fa", b"$version dessert", 0),
+    (0, 1, 8, b"", WAVE_4, 10),
+    (0, 2, 8, b"failure at cycle", WAVE_4, 10),
+];
+
+#[test]
+fn a_write_that_fails_leaves_a_front(rt: HostRuntime) -> Result<(), Fail> {
+    for (write, report, status, text, wave, times) in WRITES.iter() {
+        let case = Case {
+            fails: [0, 0, *write, *report],
+            status: *status,
+            text: *text,
+            begins: *wave,
+            ends: *wave,
+            times: *times,
+            ..hits()
+        };
+        assert!(rt; holds(rt.alloc(), &case)?);
     }
     Ok(())
 }
 
 #[test]
-fn a_stimulus_is_refused(rt: HostRuntime) -> Result<(), Fail> {
-    let texts: [&[u8]; 3] = [
-        b"",
-        b"stimulus 2\n",
-        b"stimulus 1\ninputs rst en\n0 1\n0 2\n",
-    ];
-    for text in texts {
-        assert!(rt;
-            is_refused(
-                rt.alloc(),
-                counter_call(text),
-                4,
-                b"stimulus: NotYetBuilt\n"
-            )?
-        );
+fn a_stop_has_its_file_and_line(rt: HostRuntime) -> Result<(), Fail> {
+    let guarded = Case {
+        files: &[("cnt.v", GUARDED)],
+        text: b"failure at cycle 9\nstop in cnt at cnt.v:10\nr hit 9\nwindow 5 to 9\n",
+        ..hits()
+    };
+    let limited = Case {
+        words: &["sim", "lag=1", "limit.vh", "cnt.v"],
+        files: &[("cnt.v", LIMITED), ("limit.vh", DEFINED)],
+        text: b"failure at cycle 5\nstop in cnt at cnt.v:6\nwindow 4 to 5\n",
+        begins: b"$version",
+        ends: b"\n#11\n1!\n",
+        times: 4,
+        ..hits()
+    };
+    let alone = Case {
+        words: &["sim", "lag=0", "cnt.v"],
+        counted: 10,
+        text: ALONE,
+        begins: WAVE_0,
+        ends: WAVE_0,
+        times: 2,
+        ..hits()
+    };
+    assert!(rt; holds(rt.alloc(), &guarded)?);
+    assert!(rt; holds(rt.alloc(), &limited)?);
+    assert!(rt; holds(rt.alloc(), &alone)?);
+    Ok(())
+}
+
+// The words, how many times stand in the waveform, and how the report ends.
+const WINDOWS: [(Words, u32, Bytes); 5] = [
+    (
+        &["sim", "lag=3", "cnt.v"],
+        8,
+        b"failure at cycle 300\nstop in cnt at cnt.v:9\nr hit 9\nwindow 297 to 300\n",
+    ),
+    (
+        &["sim", "cnt.v"],
+        130,
+        b"failure at cycle 300\nstop in cnt at cnt.v:9\nr hit 9\nwindow 236 to 300\n",
+    ),
+    (
+        &["sim", "lag=65", "cnt.v"],
+        132,
+        b"failure at cycle 300\nstop in cnt at cnt.v:9\nr hit 9\nwindow 235 to 300\n",
+    ),
+    (
+        &["sim", "lag=150", "cnt.v"],
+        302,
+        b"failure at cycle 300\nstop in cnt at cnt.v:9\nr hit 9\nwindow 150 to 300\n",
+    ),
+    (
+        &["sim", "lag=1000", "cnt.v"],
+        602,
+        b"failure at cycle 300\nstop in cnt at cnt.v:9\nr hit 9\nwindow 0 to 300\n",
+    ),
+];
+
+// The counter is held at 0 so long that it fails in cycle 300, after many more rows than are kept.
+#[test]
+fn a_late_window_is_run_again(rt: HostRuntime) -> Result<(), Fail> {
+    for (words, times, text) in WINDOWS.iter() {
+        let case = Case {
+            words: *words,
+            held: 291,
+            counted: 10,
+            text: *text,
+            begins: b"$version dessert 1 $end\n",
+            ends: b"\n#601\n1!\n",
+            times: *times,
+            ..hits()
+        };
+        assert!(rt; holds(rt.alloc(), &case)?);
     }
     Ok(())
 }
 
-// A row that is bad behind the failure is refused all the same.
+// Sixteen files, and one more.
 #[test]
-fn a_bad_row_behind_the_failure_is_refused(rt: HostRuntime) -> Result<(), Fail> {
-    let mut stimulus = counted(rt.alloc(), 12)?;
-    stimulus.extend_from_slice(b"0 x\n")?;
-    let came = ask(rt.alloc(), counter_call(&stimulus))?;
-    assert_eq!(rt; came.status, 4);
-    assert_eq!(rt;
-        came.report.as_slice(),
-        b"stimulus: NotYetBuilt\n".as_slice()
-    );
-    Ok(())
-}
-
-// The counter with so many blanks behind it that the file has this length, over no row.
-fn ask_padded(alloc: Global, length: usize) -> Result<Came, Fail> {
-    let mut file = bytes_of(alloc, COUNTER)?;
-    file.resize(length, b' ')?;
-    ask(
-        alloc,
-        Call {
-            files: &[("cnt.v", &file)],
-            ..counter_call(b"stimulus 1\ninputs rst en\n")
-        },
-    )
-}
-
-#[test]
-fn a_file_of_four_mebibytes_is_the_longest(rt: HostRuntime) -> Result<(), Fail> {
-    let longest = ask_padded(rt.alloc(), 4_194_304)?;
-    assert_eq!(rt; longest.status, 0);
-    let longer = ask_padded(rt.alloc(), 4_194_305)?;
-    assert_eq!(rt; longer.status, 5);
-    assert_eq!(rt;
-        longer.report.as_slice(),
-        b"file cnt.v: too long\n".as_slice()
-    );
+fn a_design_has_sixteen_files_at_most(rt: HostRuntime) -> Result<(), Fail> {
+    let mut words = vec![in rt.alloc(); "none.v"; 17]?;
+    words[0] = "sim";
+    words[1] = "cnt.v";
+    assert!(rt; answers(rt.alloc(), &quiet(), &words)?);
+    words.push("none.v")?;
+    assert!(rt; answers(rt.alloc(), &plain(3, 2, b"usage\n"), &words)?);
     Ok(())
 }

@@ -66,7 +66,8 @@ fn push_stops(
     origins: &Origins<'_>,
     fired: &[Fired],
 ) -> Result<(), NoMemory>
-    ensures { OnOk result (text.new.items ≡ text.old.items ++ stops_text (map (stop_of path.now origins.now) fired.now)) }
+    ensures { let stops = map (stop_of path.now origins.now) fired.now in
+        OnOk result (text.new.items ≡ text.old.items ++ stops_text stops) }
 {
     for one in fired {
         push_stop(text, path, origins, one)?;
@@ -83,7 +84,8 @@ pub fn failure(
     fired: &[Fired],
     first: u64,
 ) -> Result<Vec<u8>, NoMemory>
-    ensures { IfOk result (λ text. text.items ≡ failure_text cycle (map (stop_of path.now origins.now) fired.now) first) }
+    ensures { let stops = map (stop_of path.now origins.now) fired.now in
+        IfOk result (λ text. text.items ≡ failure_text cycle stops first) }
 {
     let mut text = Vec::new(alloc);
     push(&mut text, b"failure at cycle ")?;

@@ -1,24 +1,21 @@
 //! The top call.
 
-ghost use Rattle.std.specs.Prelude.{◌≡◌, ◌≤◌, ◌<◌, ◌^◌, ◌-◌, ◌⊎◌, map, length, List, ℕ, Bool, IfOk, Some};
-ghost use Rattle.std.specs.declared.option.Option.{Option};
+ghost use Rattle.std.specs.Prelude.{◌≡◌, ◌≤◌, ◌<◌, ◌+◌, map, length, List, ℕ, IfOk, Some};
 ghost use Rattle.flat_ir.specs.Names.{input_names};
-ghost use Rattle.vl_tree.specs.Tree.{Module};
-ghost use Rattle.vl_meaning.specs.StandsFor.{StandsFor};
-ghost use Rattle.vl_front.specs.OneModule.{IsDesign};
 ghost use Rattle.vl_front.specs.Reads.{Reads};
-ghost use Rattle.dessert.specs.Answer.{Status, number, allowed, Answers, Loaded, moment};
-ghost use Rattle.dessert.specs.Words as asked;
+ghost use Rattle.dessert.specs.Outside.{FilesAt, source_at, sink_at, streams_at, outside_at};
+ghost use Rattle.dessert.specs.Answer.{Answers};
+ghost use Rattle.dessert.specs.Words.{words_of, most_lag};
 ghost use Rattle.dessert.specs.Named.{named};
-ghost use Rattle.dessert.specs.Sources.{design_text, line_count};
-ghost use Rattle.dessert.specs.Loading.{IsLoaded};
 ghost use Rattle.dessert.specs.Outcome.{layers};
-ghost use Rattle.dessert.specs.Complete.{AllWell};
-ghost use Rattle.dessert.specs.Ran.{RanTo};
 ghost use Rattle.dessert.specs.Report.{failure_text, stop_of};
-ghost use Rattle.dessert.specs.Written.{RunIsWritten, GivesUp, refusal_text, refusal_status};
-ghost use Rattle.dessert.specs.Writing.{Wrote, sinks};
-ghost use Rattle.dessert.specs.Ended.{status_of};
+ghost use Rattle.dessert.specs.Steps.{AreFew, again, lag_in, period};
+ghost use Rattle.dessert.specs.Headline.{IsAnswer, IsComplete};
+ghost use Rattle.dessert.specs.Calls.Led.{LedToText, LedToDesign};
+ghost use Rattle.dessert.specs.Calls.Ran.{RanTo};
+ghost use Rattle.dessert.specs.Calls.Written.{RunIsWritten, GivesUp, refusal_text, refusal_status};
+ghost use Rattle.dessert.specs.Calls.Writing.{Wrote};
+ghost use Rattle.dessert.specs.Calls.Ended.{status_of};
 
 use crate::ended::Ended;
 use crate::replay::write_window;
@@ -38,10 +35,10 @@ use stim::reader::{StimFault, StimReader};
 use vcd_text::fault::VcdFault;
 use vl_front::{DesignFault, read_design};
 
-/// Loads the files, reads their design, runs it over all rows of the stimulus, and writes what comes of it: the waveform of the window
-/// of a failure to `out`, and then the report. Each cycle that is settled counts one step.
-/// The status: 0 no failure, 1 a failure, 2 the words, 3 the design, 4 the stimulus, 5 a file, 6 reading, 7 writing to `out`, 8 writing
-/// the report, 9 want of memory.
+/// Loads the files, reads their design, runs it over all rows of the stimulus, and writes what comes of it: the waveform
+/// of the window of a failure to `out`, and then the report. Each cycle that is settled counts one step.
+/// The status: 0 no failure, 1 a failure, 2 the words, 3 the design, 4 the stimulus, 5 a file, 6 reading, 7 writing to
+/// `out`, 8 writing the report, 9 out of memory.
 pub fn quiet_main<F: Files, S: Source, V: Sink, T: Sink, L: Ledger>(
     alloc: Global,
     words: &[&str],
@@ -51,13 +48,12 @@ pub fn quiet_main<F: Files, S: Source, V: Sink, T: Sink, L: Ledger>(
     report: &mut T,
     steps: &mut Steps<L>,
 ) -> u8
-    ensures answers { (s : Status) × (result ≡ number s) × Answers layers (F.content files.old) (F.told files.old) (named words.now)
-        (moment (S.left stimulus.old) (S.faults stimulus.old) (V.held out.old) (V.faults out.old) (T.held report.old) (T.faults report.old) (F.faults files.old))
-        (moment (S.left stimulus.new) (S.faults stimulus.new) (V.held out.new) (V.faults out.new) (T.held report.new) (T.faults report.new) (F.faults files.new)) s }
-    ensures complete { AllWell (F.content files.old) (F.told files.old) (named words.now)
-        (moment (S.left stimulus.old) (S.faults stimulus.old) (V.held out.old) (V.faults out.old) (T.held report.old) (T.faults report.old) (F.faults files.old))
-        (moment (S.left stimulus.new) (S.faults stimulus.new) (V.held out.new) (V.faults out.new) (T.held report.new) (T.faults report.new) (F.faults files.new))
-        → (result ≡ 0) ⊎ ((result ≡ 1) ⊎ (result ≡ 9)) }
+    ensures answers { let seen = outside_at F.Files S.Source V.Sink T.Sink in
+        IsAnswer (named words.now) (seen files.old stimulus.old out.old report.old steps.old)
+        (seen files.new stimulus.new out.new report.new steps.new) result }
+    ensures complete { let seen = outside_at F.Files S.Source V.Sink T.Sink in
+        IsComplete (named words.now) (seen files.old stimulus.old out.old report.old steps.old)
+        (seen files.new stimulus.new out.new report.new steps.new) result }
 {
     answer(alloc, words, files, stimulus, out, report, steps).number()
 }
@@ -72,9 +68,12 @@ fn answer<F: Files, S: Source, V: Sink, T: Sink, L: Ledger>(
     report: &mut T,
     steps: &mut Steps<L>,
 ) -> Ended
-    ensures { Answers layers (F.content files.old) (F.told files.old) (named words.now)
-        (moment (S.left stimulus.old) (S.faults stimulus.old) (V.held out.old) (V.faults out.old) (T.held report.old) (T.faults report.old) (F.faults files.old))
-        (moment (S.left stimulus.new) (S.faults stimulus.new) (V.held out.new) (V.faults out.new) (T.held report.new) (T.faults report.new) (F.faults files.new)) (status_of result) }
+    ensures answers { let seen = outside_at F.Files S.Source V.Sink T.Sink in
+        Answers layers (named words.now) (seen files.old stimulus.old out.old report.old steps.old)
+        (seen files.new stimulus.new out.new report.new steps.new) (status_of result) }
+    ensures steps { let seen = source_at S.Source in
+        AreFew (lag_in (words_of (named words.now))) (seen stimulus.old) (seen stimulus.new) steps.old steps.new
+        (status_of result) }
 {
     let Some(job) = read_words(words) else {
         return finish(report, texts::USAGE, Ended::Usage);
@@ -101,13 +100,15 @@ fn run_sources<S: Source, V: Sink, T: Sink, L: Ledger>(
     report: &mut T,
     steps: &mut Steps<L>,
 ) -> Ended
-    requires text { length sources.text.items < 2 ^ 32 - 1 }
-    requires lag { lag ≤ 16384 }
-    ensures { (content : List ℕ → Option (List ℕ)) (told : Bool) (words : List (List ℕ)) (loads0 loads1 : ℕ)
-        → asked.words_of words ≡ allowed (asked.job lag sources.entry.origins.names) → IsLoaded content told sources.entry.origins.names sources.entry.text.items sources.entry.origins.counts
-        → Answers layers content told words
-        (moment (S.left stimulus.old) (S.faults stimulus.old) (V.held out.old) (V.faults out.old) (T.held report.old) (T.faults report.old) loads0)
-        (moment (S.left stimulus.new) (S.faults stimulus.new) (V.held out.new) (V.faults out.new) (T.held report.new) (T.faults report.new) loads1) (status_of result) }
+    requires text { length sources.text.items < u32.MAX }
+    requires lag { lag ≤ most_lag }
+    ensures answers { let seen = streams_at S.Source V.Sink T.Sink in
+        (words : List (List ℕ)) (files : FilesAt)
+        → LedToText words files lag sources.entry.origins sources.entry.text.items
+        → Answers layers words (seen files stimulus.old out.old report.old steps.old)
+        (seen files stimulus.new out.new report.new steps.new) (status_of result) }
+    ensures steps { let seen = source_at S.Source in
+        AreFew lag (seen stimulus.old) (seen stimulus.new) steps.old steps.new (status_of result) }
 {
     let Sources { text, origins } = sources;
     match read_text(alloc, text) {
@@ -124,7 +125,7 @@ fn run_sources<S: Source, V: Sink, T: Sink, L: Ledger>(
 
 // The design of a text, which is gone before the run.
 fn read_text(alloc: Global, text: Vec<u8>) -> Result<Flat, DesignFault>
-    requires { length text.items < 2 ^ 32 - 1 }
+    requires { length text.items < u32.MAX }
     ensures { Reads text.items result }
 {
     read_design(alloc, &text)
@@ -142,12 +143,13 @@ fn run_design<S: Source, V: Sink, T: Sink, L: Ledger>(
     steps: &mut Steps<L>,
 ) -> Ended
     requires inputs { flat.now.inputs ≡ length (input_names flat.now.signals) }
-    requires lag { lag ≤ 16384 }
-    ensures { (m : Module) (files : List (List ℕ)) (content : List ℕ → Option (List ℕ)) (told : Bool) (words : List (List ℕ)) (loads0 loads1 : ℕ)
-        → asked.words_of words ≡ allowed (asked.job lag origins.now.names) → Loaded content told origins.now.names files → origins.now.counts ≡ map line_count files
-        → IsDesign (design_text files) m → StandsFor flat.now m → Answers layers content told words
-        (moment (S.left stimulus.old) (S.faults stimulus.old) (V.held out.old) (V.faults out.old) (T.held report.old) (T.faults report.old) loads0)
-        (moment (S.left stimulus.new) (S.faults stimulus.new) (V.held out.new) (V.faults out.new) (T.held report.new) (T.faults report.new) loads1) (status_of result) }
+    requires lag { lag ≤ most_lag }
+    ensures answers { let seen = streams_at S.Source V.Sink T.Sink in
+        (words : List (List ℕ)) (files : FilesAt) → LedToDesign words files lag origins.now flat.now
+        → Answers layers words (seen files stimulus.old out.old report.old steps.old)
+        (seen files stimulus.new out.new report.new steps.new) (status_of result) }
+    ensures steps { let seen = source_at S.Source in
+        AreFew lag (seen stimulus.old) (seen stimulus.new) steps.old steps.new (status_of result) }
 {
     let Ok(mut reader) = StimReader::new(alloc, flat) else {
         return Ended::Memory;
@@ -163,7 +165,7 @@ fn run_design<S: Source, V: Sink, T: Sink, L: Ledger>(
 
 // Writes the report of a run that didn't come to the end of its rows.
 fn give_up<T: Sink>(fault: RowsFault, report: &mut T) -> Ended
-    ensures { GivesUp fault (status_of result) (T.held report.old) (T.held report.new) (T.faults report.old) (T.faults report.new) }
+    ensures { GivesUp fault (status_of result) (sink_at T.Sink report.old) (sink_at T.Sink report.new) }
 {
     match fault {
         RowsFault::Stimulus(fault) => refuse(fault, report),
@@ -173,7 +175,8 @@ fn give_up<T: Sink>(fault: RowsFault, report: &mut T) -> Ended
 
 // Writes the report of a stimulus that was refused, or that broke off.
 fn refuse<T: Sink>(fault: StimFault, report: &mut T) -> Ended
-    ensures { Wrote (refusal_text fault) (refusal_status fault) (status_of result) (T.held report.old) (T.held report.new) (T.faults report.old) (T.faults report.new) }
+    ensures { Wrote (refusal_text fault) (refusal_status fault) (status_of result)
+        (sink_at T.Sink report.old) (sink_at T.Sink report.new) }
 {
     match fault {
         StimFault::NotBuilt => finish(report, texts::STIMULUS_REFUSED, Ended::Input),
@@ -192,10 +195,12 @@ fn settle<V: Sink, T: Sink, L: Ledger>(
     report: &mut T,
     steps: &mut Steps<L>,
 ) -> Ended
-    requires { (rows : List (List ℕ)) × RanTo run.now.flat rows run.now }
-    ensures { (rows : List (List ℕ)) → RanTo run.now.flat rows run.now → lag < run.now.window.period → RunIsWritten lag origins.now run.now.flat rows run.now (status_of result)
-        (sinks (V.held out.old) (V.faults out.old) (T.held report.old) (T.faults report.old))
-        (sinks (V.held out.new) (V.faults out.new) (T.held report.new) (T.faults report.new)) }
+    requires ran { (rows : List (List ℕ)) × RanTo run.now.flat rows run.now }
+    requires period { run.now.window.period ≡ period lag }
+    ensures written { (rows : List (List ℕ)) → RanTo run.now.flat rows run.now
+        → RunIsWritten lag origins.now run.now.flat rows run.now (status_of result)
+        (sink_at V.Sink out.old) (sink_at V.Sink out.new) (sink_at T.Sink report.old) (sink_at T.Sink report.new) }
+    ensures steps { steps.new ≤ steps.old + again lag (status_of result) }
 {
     match run.failure() {
         Some(failure) => fail(alloc, lag, origins, run, failure, out, report, steps),
@@ -214,11 +219,13 @@ fn fail<V: Sink, T: Sink, L: Ledger>(
     report: &mut T,
     steps: &mut Steps<L>,
 ) -> Ended
-    requires { (rows : List (List ℕ)) × RanTo run.now.flat rows run.now × (run.now.failure ≡ Some failure.now) }
-    ensures { (rows : List (List ℕ)) → RanTo run.now.flat rows run.now → lag < run.now.window.period → run.now.failure ≡ Some failure.now
+    requires ran { (rows : List (List ℕ)) × RanTo run.now.flat rows run.now }
+    requires failed { run.now.failure ≡ Some failure.now }
+    requires period { run.now.window.period ≡ period lag }
+    ensures written { (rows : List (List ℕ)) → RanTo run.now.flat rows run.now
         → RunIsWritten lag origins.now run.now.flat rows run.now (status_of result)
-        (sinks (V.held out.old) (V.faults out.old) (T.held report.old) (T.faults report.old))
-        (sinks (V.held out.new) (V.faults out.new) (T.held report.new) (T.faults report.new)) }
+        (sink_at V.Sink out.old) (sink_at V.Sink out.new) (sink_at T.Sink report.old) (sink_at T.Sink report.new) }
+    ensures steps { steps.new ≤ steps.old + again lag (status_of result) }
 {
     let first = failure.cycle.saturating_sub(u64::from(lag));
     match write_window(alloc, run.flat(), run.window(), first, out, steps) {
@@ -240,7 +247,8 @@ fn failure_report(
     failure: &Failure,
     first: u64,
 ) -> Result<Vec<u8>, NoMemory>
-    ensures { IfOk result (λ text. text.items ≡ failure_text failure.now.cycle (map (stop_of flat.now.name origins.now) failure.now.fired) first) }
+    ensures { let stops = map (stop_of flat.now.name origins.now) failure.now.fired in
+        IfOk result (λ text. text.items ≡ failure_text failure.now.cycle stops first) }
 {
     texts::failure(
         alloc,

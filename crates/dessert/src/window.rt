@@ -1,11 +1,14 @@
 //! The last rows of a run, and a state before them, so that the last cycles can be run again.
 //!
-//! Rows are kept in two parts of at most `period` rows each. When the newer part is full it becomes the older one, and the rows of
-//! the one before are forgotten. So the last `period` rows are always there, and a state is copied once in `period` cycles.
+//! Rows are kept in two parts of at most `period` rows each. When the newer part is full it becomes the older one, and the
+//! rows of the one before are forgotten. So the last `period` rows are always there, never more than twice as many, and a
+//! state is copied once in `period` cycles.
 
-ghost use Rattle.std.specs.Prelude.{◌≡◌, ◌≤◌, ◌<◌, ◌+◌, ◌-◌, ◌^◌, ◌++◌, ◌∷◌, [], ℕ, List, length, slice_index, IfOk, OnOk};
+ghost use Rattle.std.specs.Prelude.{◌≡◌, ◌≤◌, ◌<◌, ◌+◌, ◌++◌, ◌∷◌, [], ℕ, List, length, slice_index, IfOk, OnOk};
 ghost use Rattle.flat_ir.specs.FlatRun as flat_run;
-ghost use Rattle.dessert.specs.Kept.{Holds};
+ghost use Rattle.dessert.specs.Words.{most_lag};
+ghost use Rattle.dessert.specs.Steps as bound;
+ghost use Rattle.dessert.specs.Calls.Kept.{Holds};
 
 use dt_core::fault::NoMemory;
 use flat_ir::state::FlatState;
@@ -31,7 +34,7 @@ pub struct Window {
 }
 
 impl Model for Window {
-    ghost use Rattle.dessert.specs.Progress as progress;
+    ghost use Rattle.dessert.specs.Calls.Progress as progress;
 
     ghost Value = { progress.Window };
 
@@ -48,9 +51,10 @@ pub struct Part<'a> {
 impl Window {
     /// The window of no rows yet, at a design's first state; it will keep `lag` rows before the last one, and more.
     pub fn start(alloc: Global, first: &[u128], lag: u32) -> Result<Window, NoMemory>
-        requires { lag < 2 ^ 32 - 1 }
-        ensures holds { IfOk result (λ w. (flat : flat_run.Flat) → first.now ≡ flat_run.flat_start flat → Holds flat [] w) }
-        ensures period { IfOk result (λ w. (lag < w.period) × (1 ≤ w.period)) }
+        requires { lag ≤ most_lag }
+        ensures holds { IfOk result (λ w. (flat : flat_run.Flat) → first.now ≡ flat_run.flat_start flat
+            → Holds flat [] w) }
+        ensures period { IfOk result (λ w. w.period ≡ bound.period lag) }
     {
         Ok(Window {
             period: SHORTEST_PERIOD.max(lag + 1),
@@ -68,9 +72,10 @@ impl Window {
     pub fn keep(&mut self, alloc: Global, state: &[u128], row: &[u128]) -> Result<(), NoMemory>
         requires bytes { (k : ℕ) → k < length row.now → slice_index row.now k < 256 }
         requires some { 1 ≤ self.old.period }
-        requires room { self.old.end < 2 ^ 32 - 1 }
-        ensures holds { OnOk result ((flat : flat_run.Flat) (rows : List (List ℕ)) → Holds flat rows self.old → state.now ≡ flat_run.flat_state flat rows (length rows)
-            → length row.now ≡ flat.inputs → Holds flat (rows ++ row.now ∷ []) self.new) }
+        requires room { self.old.end < u32.MAX }
+        ensures holds { OnOk result ((flat : flat_run.Flat) (rows : List (List ℕ)) → Holds flat rows self.old
+            → state.now ≡ flat_run.flat_state flat rows (length rows) → length row.now ≡ flat.inputs
+            → Holds flat (rows ++ row.now ∷ []) self.new) }
         ensures period { self.new.period ≡ self.old.period }
         ensures end { self.new.end ≤ self.old.end + 1 }
     {
@@ -81,10 +86,10 @@ impl Window {
         Ok(())
     }
 
-    // Where the newer part is full it becomes the older one.
+    // Where the newer part is full, it becomes the older one.
     fn make_room(&mut self, alloc: Global, state: &[u128]) -> Result<(), NoMemory>
-        ensures holds { OnOk result ((flat : flat_run.Flat) (rows : List (List ℕ)) → Holds flat rows self.old → state.now ≡ flat_run.flat_state flat rows (length rows)
-            → Holds flat rows self.new) }
+        ensures holds { OnOk result ((flat : flat_run.Flat) (rows : List (List ℕ)) → Holds flat rows self.old
+            → state.now ≡ flat_run.flat_state flat rows (length rows) → Holds flat rows self.new) }
         ensures room { OnOk result (1 ≤ self.old.period → self.new.newer_count < self.new.period) }
         ensures period { self.new.period ≡ self.old.period }
         ensures end { self.new.end ≡ self.old.end }
@@ -92,19 +97,19 @@ impl Window {
         if self.newer_count < self.period {
             return Ok(());
         }
-        let behind = FlatState::copied(alloc, state)?;
+        let later = FlatState::copied(alloc, state)?;
         self.older_count = self.newer_count;
         self.newer_count = 0;
         mem::swap(&mut self.older, &mut self.newer);
         self.newer.clear();
-        self.base = mem::replace(&mut self.middle, behind);
+        self.base = mem::replace(&mut self.middle, later);
         Ok(())
     }
 
     /// The cycle in which the kept rows begin.
     pub fn first_cycle(&self) -> u32
         ensures first { result + (self.now.older_count + self.now.newer_count) ≡ self.now.end }
-        ensures counted { self.now.end < 2 ^ 32 }
+        ensures counted { self.now.end ≤ u32.MAX }
     {
         self.end - (self.older_count + self.newer_count)
     }
@@ -127,7 +132,7 @@ impl Window {
         }
     }
 
-    /// The rows behind them.
+    /// The rows after them.
     pub fn newer(&self) -> Part<'_>
         ensures count { result.count ≡ self.now.newer_count }
         ensures values { result.values.now ≡ self.now.newer }

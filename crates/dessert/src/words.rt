@@ -24,9 +24,10 @@ pub struct Job<'a> {
 
 /// What `sim`, at most one `lag=N`, and 1 to 16 files ask for; none where the words have another form.
 pub fn read_words<'a>(words: &'a [&'a str]) -> Option<Job<'a>>
-    ensures words { MatchOption result (spec.words_of (named words.now) ≡ bad) (λ j. spec.words_of (named words.now) ≡ allowed (spec.job j.lag (named j.files.now))) }
-    ensures lag { MatchOption result (Unit {0}) (λ j. j.lag ≤ 16384) }
-    ensures files { MatchOption result (Unit {0}) (λ j. length j.files.now ≤ 16) }
+    ensures words { let asked = spec.words_of (named words.now) in
+        MatchOption result (asked ≡ bad) (λ j. asked ≡ allowed (spec.job j.lag (named j.files.now))) }
+    ensures lag { MatchOption result (Unit {0}) (λ j. j.lag ≤ spec.most_lag) }
+    ensures files { MatchOption result (Unit {0}) (λ j. length j.files.now ≤ spec.most_files) }
 {
     match words {
         [command, first, more @ ..] if *command == "sim" => {
@@ -42,10 +43,11 @@ pub fn read_words<'a>(words: &'a [&'a str]) -> Option<Job<'a>>
 
 // The job of a lag and files, if they are 1 to 16 file words.
 fn job_of<'a>(lag: u32, files: &'a [&'a str]) -> Option<Job<'a>>
-    requires { lag ≤ 16384 }
-    ensures words { MatchOption result (spec.asked (Some lag) (named files.now) ≡ bad) (λ j. spec.asked (Some lag) (named files.now) ≡ allowed (spec.job j.lag (named j.files.now))) }
-    ensures lag { MatchOption result (Unit {0}) (λ j. j.lag ≤ 16384) }
-    ensures files { MatchOption result (Unit {0}) (λ j. length j.files.now ≤ 16) }
+    requires { lag ≤ spec.most_lag }
+    ensures words { let asked = spec.asked (Some lag) (named files.now) in
+        MatchOption result (asked ≡ bad) (λ j. asked ≡ allowed (spec.job j.lag (named j.files.now))) }
+    ensures lag { MatchOption result (Unit {0}) (λ j. j.lag ≤ spec.most_lag) }
+    ensures files { MatchOption result (Unit {0}) (λ j. length j.files.now ≤ spec.most_files) }
 {
     if files.is_empty() || files.len() > MAX_FILES || !are_file_words(files) {
         return None;
@@ -68,7 +70,7 @@ fn are_file_words(words: &[&str]) -> bool
 // The lag that a word sets.
 fn read_lag(word: &str) -> Option<u32>
     ensures value { result ≡ spec.lag_of word.now }
-    ensures most { MatchOption result (Unit {0}) (λ lag. lag ≤ 16384) }
+    ensures most { MatchOption result (Unit {0}) (λ lag. lag ≤ spec.most_lag) }
 {
     let digits = word.as_bytes().strip_prefix(b"lag=")?;
     if !is_decimal(digits) {
@@ -101,8 +103,9 @@ fn are_digits(bytes: &[u8]) -> bool
 
 // The number of these digits, where it is `most` at most.
 fn read_number(digits: &[u8], most: u32) -> Option<u32>
-    requires { most ≤ 16384 }
-    ensures value { result ≡ spec.some_when (nat_le (spec.decimal_of digits.now) most) (spec.decimal_of digits.now) }
+    requires { most ≤ spec.most_lag }
+    ensures value { let number = spec.decimal_of digits.now in
+        result ≡ spec.some_when (nat_le number most) number }
     ensures most { MatchOption result (Unit {0}) (λ number. number ≤ most) }
 {
     let mut number: u32 = 0;

@@ -1,6 +1,6 @@
 //! The program: the words, the real files and streams, and the status that it ends with.
 //!
-//! Below: `dessert` (the top call), `dt_io` (std's streams and files behind the traits), `plain_sim` (the count of steps).
+//! Below: `dessert` (the top call), `dt_io` (std's streams and files, as the traits see them), `plain_sim` (the count of steps).
 #![tactic(auto)]
 
 mod help;
@@ -18,7 +18,7 @@ use std::process::ExitCode;
 use std::sync::ledger::{Blank, Ledger};
 use std::{env, io};
 
-// Want of memory.
+// Out of memory.
 const NO_MEMORY: u8 = 9;
 
 // Standard output failed.

@@ -93,6 +93,7 @@ impl StimReader {
             × RowIs names rows (taken ++ more) self.new (S.left source.new)
             (S.faults source.old) (S.faults source.new) result }
         ensures live { IsTrue self.new.live ↔ (result ≡ Ok true) }
+        ensures begun { IfOk result (λ given. given ≡ true → IsTrue self.new.begun) }
         ensures later { S.faults source.old ≤ S.faults source.new }
     {
         let start = start_of(self.begun);

@@ -1,27 +1,33 @@
-use Rattle.std.proofs.Common.{◌≡◌, ℕ, sym, subst, inl}
+use Rattle.std.proofs.Common.{◌≡◌, ℕ, sym, subst, inl, refl, arith}
 use Rattle.std.specs.Prelude.{Option, IfOk}
-use Rattle.std.proofs.KnownBytes.{Keeps-refl}
-use Rattle.dessert.specs.Progress.{Failure}
-use Rattle.dessert.specs.Ended.{status_of}
+use Rattle.dessert.specs.Outside.{sink_at}
 use Rattle.dessert.specs.Report.{quiet_text}
-use Rattle.dessert.specs.Written.{out_by, text_by, ended_by}
-use Rattle.dessert.specs.Writing.{sinks, Delivered}
-use Rattle.dessert.proofs.Cases.{kept_appends}
+use Rattle.dessert.specs.Calls.Ended.{status_of}
+use Rattle.dessert.specs.Calls.Progress.{Failure}
+use Rattle.dessert.specs.Calls.Written.{out_by, text_by, ended_by}
+use Rattle.dessert.specs.Calls.Writing.{Delivered}
+use Rattle.dessert.proofs.Cases.{left_took}
+use Rattle.dessert.proofs.TopLaws.{left_as}
 use Rattle.dessert.proofs.top.settle.Goals as goal
 
-pub fail-requires : goal.fail-requires
-fail-requires g c = (c.requires.0, c.requires.1, c.in-Some.ensures)
+pub fail-requires-clause-ran : goal.fail-requires-clause-ran
+fail-requires-clause-ran g c = c.requires.ran
 
-pub returns-in-Some : goal.returns-in-Some
-returns-in-Some g c = λ rows r enough. c.fail.ensures rows r enough c.in-Some.ensures
+pub fail-requires-clause-failed : goal.fail-requires-clause-failed
+fail-requires-clause-failed g c = c.in-Some.ensures
 
-pub returns-in-None : goal.returns-in-None
-returns-in-None g c = λ rows r enough.
+pub returns-in-Some-clause-written : goal.returns-in-Some-clause-written
+returns-in-Some-clause-written g c = λ rows r. c.fail.ensures.written rows r
+
+pub returns-in-None-clause-written : goal.returns-in-None-clause-written
+returns-in-None-clause-written g c = λ rows r.
     subst (λ (o : Option Failure). Delivered (out_by c.args.lag c.args.run.now.flat rows o) (text_by c.args.lag c.args.run.now.flat.name c.args.origins.now c.args.run.now.cycles o) (ended_by o) (status_of c.finish_text.result)
-    (sinks (g.V.Sink.held c.args.out.now) (g.V.Sink.faults c.args.out.now) (g.T.Sink.held c.args.report.now) (g.T.Sink.faults c.args.report.now))
-    (sinks (g.V.Sink.held c.args.out.now) (g.V.Sink.faults c.args.out.now) (g.T.Sink.held c.finish_text.new.report) (g.T.Sink.faults c.finish_text.new.report)))
+    (sink_at g.V.Sink c.args.out.now) (sink_at g.V.Sink c.args.out.now) (sink_at g.T.Sink c.args.report.now) (sink_at g.T.Sink c.finish_text.new.report))
     (sym c.in-None.ensures)
     (inl (
-      kept_appends (g.V.Sink.held c.args.out.now) (g.V.Sink.held c.args.out.now) (Keeps-refl _),
+      left_took (sink_at g.V.Sink c.args.out.now) (sink_at g.V.Sink c.args.out.now) (left_as (sink_at g.V.Sink c.args.out.now)),
       c.finish_text.ensures (quiet_text c.args.run.now.cycles) (subst (λ (n : ℕ). IfOk c.quiet.result (λ t. t.items ≡ quiet_text n)) c.cycles.ensures c.quiet.ensures),
     ))
+
+pub returns-in-None-clause-steps : goal.returns-in-None-clause-steps
+returns-in-None-clause-steps g c = omega arith

@@ -1,6 +1,6 @@
 use Rattle.std.proofs.Common.{◌++◌, ◌∷◌, [], refl, sym, ap, subst, ◌∙◌}
-use Rattle.dessert.specs.Progress.{Progress}
-use Rattle.dessert.specs.Ran.{HasRun}
+use Rattle.dessert.specs.Calls.Progress.{Progress}
+use Rattle.dessert.specs.Calls.Ran.{HasRun}
 use Rattle.dessert.proofs.RanLaws.{ran_more}
 use Rattle.dessert.proofs.run.Run.take.Goals as goal
 

@@ -1,6 +1,6 @@
 use Rattle.std.proofs.Common.{◌<◌, refl, sym, subst}
-use Rattle.dessert.specs.Kept.{Holds}
-use Rattle.dessert.specs.Progress.{Window}
+use Rattle.dessert.specs.Calls.Kept.{Holds}
+use Rattle.dessert.specs.Calls.Progress.{Window}
 use Rattle.dessert.proofs.KeptLaws.{kept_row}
 use Rattle.dessert.proofs.window.Window.keep.Goals as goal
 

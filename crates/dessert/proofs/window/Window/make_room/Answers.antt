@@ -1,5 +1,5 @@
 use Rattle.std.proofs.Common.{refl, sym, subst, rules}
-use Rattle.dessert.specs.Kept.{Holds}
+use Rattle.dessert.specs.Calls.Kept.{Holds}
 use Rattle.dessert.proofs.KeptLaws.{turned}
 use Rattle.dessert.proofs.window.Window.make_room.Goals as goal
 

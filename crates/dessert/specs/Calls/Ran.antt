@@ -2,14 +2,14 @@
 use Rattle.std.specs.Prelude.{◌≡◌, ◌≢◌, ℕ, suc, ◌<◌, ◌≤◌, List, [], ◌++◌, length, slice_index_or, Option, Some, None}
 use Rattle.flat_ir.specs.Fired.{Fired}
 use Rattle.flat_ir.specs.FlatRun.{Flat, flat_state, flat_next, flat_fired}
-use Rattle.dessert.specs.Kept.{Holds}
-use Rattle.dessert.specs.Progress.{Failure, Window, Progress}
+use Rattle.dessert.specs.Calls.Kept.{Holds}
+use Rattle.dessert.specs.Calls.Progress.{Failure, Window, Progress}
 
 -- the assertions that fire in a cycle of the rows
 abbrev pub fired_at : Flat → List (List ℕ) → ℕ → List Fired
 fired_at f rows t = flat_fired f (slice_index_or rows t []) (flat_state f rows t)
 
--- no assertion has fired, and the state is that behind the rows; or the first failure is this
+-- no assertion has fired, and the state is that after the rows; or the first failure is this
 abbrev pub Found : Flat → List (List ℕ) → List ℕ → Option Failure → Type 0
 Found f rows state None = (state ≡ flat_state f rows (length rows)) × ((t : ℕ) → t < length rows → fired_at f rows t ≡ [])
 Found f rows state (Some x) =
@@ -30,13 +30,14 @@ pub record HasRun (f : Flat) (rows : List (List ℕ)) (p : Progress) : Type 0 wh
   pub kept : KeepsLast f rows p.cycle p.window p.failure
   pub some : 1 ≤ p.window.period
 
--- the run has come behind these rows of the design
+-- the run has taken all of these rows of the design
 pub record RanTo (f : Flat) (rows : List (List ℕ)) (p : Progress) : Type 0 where
   pub ran : HasRun f rows p
   pub count : p.cycles ≡ length rows
 
--- what a cycle does: nothing fires, and the state goes on; or this is the failure
-abbrev pub Steps : Flat → List ℕ → List ℕ → List ℕ → ℕ → ℕ → Option Failure → Type 0
-Steps f row state after cycle cycle' None = (after ≡ flat_next f row state) × (cycle' ≡ suc cycle) × (flat_fired f row state ≡ [])
-Steps f row state after cycle cycle' (Some x) = (cycle' ≡ cycle) × (x.cycle ≡ cycle) × (x.fired ≡ flat_fired f row state)
-    × (flat_fired f row state ≢ [])
+-- what a cycle does: nothing fires, and the state goes on; or this is the failure, and the state stands
+abbrev pub Takes : Flat → List ℕ → List ℕ → List ℕ → ℕ → ℕ → Option Failure → Type 0
+Takes f row state state' cycle cycle' None =
+    (state' ≡ flat_next f row state) × (cycle' ≡ suc cycle) × (flat_fired f row state ≡ [])
+Takes f row state state' cycle cycle' (Some x) =
+    (cycle' ≡ cycle) × (x.cycle ≡ cycle) × (x.fired ≡ flat_fired f row state) × (flat_fired f row state ≢ []) × (state' ≡ state)

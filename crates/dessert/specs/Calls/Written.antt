@@ -1,16 +1,16 @@
 -- What is written of a run over all rows, or of a stimulus that was refused or broke off. This project's own.
 use Rattle.std.specs.Prelude.{◌≡◌, ℕ, suc, List, [], map, Option, Some, None}
-use Rattle.std.specs.Io.KnownBytes.{Keeps}
 use Rattle.stim.specs.declared.reader.StimFault.{StimFault}
 use Rattle.stim.specs.declared.reader.StimFault.TheVariants as s
 use Rattle.flat_ir.specs.FlatRun.{Flat}
+use Rattle.dessert.specs.Outside.{SinkAt}
 use Rattle.dessert.specs.Report.{stop_of, failure_text, quiet_text, stimulus_refused_text, read_failed_text}
 use Rattle.dessert.specs.Answer.{Status, quiet, failure, input, reading, memory}
-use Rattle.dessert.specs.Progress.{Failure, Progress}
 use Rattle.dessert.specs.Sources.{Origins}
 use Rattle.dessert.specs.Outcome.{window_start}
-use Rattle.dessert.specs.Again.{wave_until}
-use Rattle.dessert.specs.Writing.{Sinks, Wrote, Delivered}
+use Rattle.dessert.specs.Calls.Progress.{Failure, Progress}
+use Rattle.dessert.specs.Calls.Again.{wave_until}
+use Rattle.dessert.specs.Calls.Writing.{IsLeft, Wrote, Delivered}
 use Rattle.dessert.specs.declared.rows.RowsFault.{RowsFault}
 use Rattle.dessert.specs.declared.rows.RowsFault.TheVariants as f
 
@@ -28,9 +28,9 @@ text_by lag path o cycles (Some x) = failure_text x.cycle (map (stop_of path o) 
 text_by lag path o cycles None = quiet_text cycles
 
 -- they were written
-abbrev pub RunIsWritten : ℕ → Origins → Flat → List (List ℕ) → Progress → Status → Sinks → Sinks → Type 0
-RunIsWritten lag o f rows p result old new =
-    Delivered (out_by lag f rows p.failure) (text_by lag f.name o p.cycles p.failure) (ended_by p.failure) result old new
+abbrev pub RunIsWritten : ℕ → Origins → Flat → List (List ℕ) → Progress → Status → SinkAt → SinkAt → SinkAt → SinkAt → Type 0
+RunIsWritten lag o f rows p result out out' old new =
+    Delivered (out_by lag f rows p.failure) (text_by lag f.name o p.cycles p.failure) (ended_by p.failure) result out out' old new
 
 -- the status and the report of a stimulus that was refused, or whose source failed
 abbrev pub refusal_status : StimFault → Status
@@ -43,7 +43,7 @@ refusal_text s.NotBuilt = stimulus_refused_text
 refusal_text s.Truncated = stimulus_refused_text
 refusal_text s.Read = read_failed_text
 
--- that report was written whole or in part; or nothing was, for want of memory
-abbrev pub GivesUp : RowsFault → Status → Option (List ℕ) → Option (List ℕ) → ℕ → ℕ → Type 0
-GivesUp (f.Stimulus e) result held0 held1 faults0 faults1 = Wrote (refusal_text e) (refusal_status e) result held0 held1 faults0 faults1
-GivesUp f.Memory result held0 held1 faults0 faults1 = (result ≡ memory) × Keeps held0 held1
+-- that report was written whole or in part; or nothing was, as there was no memory
+abbrev pub GivesUp : RowsFault → Status → SinkAt → SinkAt → Type 0
+GivesUp (f.Stimulus e) result old new = Wrote (refusal_text e) (refusal_status e) result old new
+GivesUp f.Memory result old new = (result ≡ memory) × IsLeft old new
