@@ -1,4 +1,4 @@
--- A token stays the same with less text behind it, and so has the longest spelling that begins there.
+-- A token stays the same with less text after it, and so has the longest spelling that begins there.
 use Rattle.std.proofs.Common.{◌≡◌, ◌≤◌, ◌<◌, ◌+◌, ◌-◌, ◌==◌, ◌||◌, ℕ, zero, suc, Bool, true, false, List, [], ◌∷◌, refl, sym, ap, subst, ◌∙◌, arith, take, drop, length, length-drop, if◌then◌else◌}
 use Rattle.std.specs.Prelude.{Option, Some, None, Result, Ok, Err, nat_eq, nat_le, ◌^◌}
 use Rattle.std.specs.List.{prefix_len, starts_with}

@@ -68,7 +68,7 @@ token_read l items c ts kind used h some s =
     let fits : length (drop used (c ∷ ts)) ≤ o.0 = let i = length-drop used (c ∷ ts) in let j = o.1 in omega (arith, i, j, some) in
     (o.0, fits, g)
 
--- what is left of the tokens behind a piece, and that there are no more than may be
+-- what is left of the tokens after a piece, and that there are no more than may be
 abbrev Read : Lexed → List code.Token → Text → Type 0
 Read l items ts = SoFar l items ts × (length items ≤ most_tokens)
 
@@ -189,7 +189,7 @@ module _ (text : Text) (old new : List code.Token) (at line : ℕ) (bs : List �
         | inr t ↦ none_stands text old p.0 p.1 e t r'
       ]
 
--- what stands behind a place and is no longer than the rest ends within the text
+-- what stands after a place and is no longer than the rest ends within the text
 pub ends_within : (text : Text) (at used : ℕ) (bs : List ℕ) → bs ≡ drop at (bytes text) → used ≤ length bs → at ≤ length text → at + used ≤ length text
 ends_within text at used bs e u h =
     let a = ap length e in

@@ -11,7 +11,7 @@ no_base : (size rest : List ℕ) → (size ≡ [] → ⊥) → number_by size No
 no_base [] rest h = absurd (h refl)
 no_base (b ∷ bs) rest h = refl
 
--- behind digits without an apostrophe and a base, the number is plain
+-- after digits without an apostrophe and a base, the number is plain
 pub tells_plain : (bs size rest : List ℕ) (n : ℕ) (r : Result Number Wrong) → n ≡ prefix_len is_in_decimal bs → size ≡ take n bs → rest ≡ drop n bs → format_at rest ≡ None → (size ≡ [] → ⊥)
     → Tells (plain_number size rest) r → Tells (number_at bs) r
 tells_plain bs size rest n r e s t f some tells =

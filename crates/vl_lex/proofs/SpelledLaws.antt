@@ -143,7 +143,7 @@ found text ts e =
 err_same : {X Y : Type 0} → (x y : Y) → (let r : Result X Y = Err x in r) ≡ Err y → x ≡ y
 err_same x y e = cc
 
--- what the answer's fault is: that behind all tokens, of which there are few, or the first token too many
+-- what the answer's fault is: that after all tokens, of which there are few, or the first token too many
 abbrev FromAnswer : Tokens → Option Fault → Fault → Type 0
 FromAnswer [] o f = o ≡ Some f
 FromAnswer (t ∷ more) o f = (line : ℕ) × (k : Kind) × (t ≡ token line k) × (record { kind = too_many_tokens; line = line } ≡ f)
@@ -157,11 +157,11 @@ err_answer [] None found f e = absurd cc
 pub record Nth (text : Text) (n : ℕ) (t : Token) : Type 0 where
   pub pieces : List Piece
   pub here : Placed
-  pub behind : Text
+  pub after : Text
   pub kind : Kind
   pub size : ℕ
-  pub leads : Leads pieces text (here ∷ behind)
-  pub stands : piece_at (bytes (here ∷ behind)) ≡ Ok (spelt kind size)
+  pub leads : Leads pieces text (here ∷ after)
+  pub stands : piece_at (bytes (here ∷ after)) ≡ Ok (spelt kind size)
   pub is : token here.line kind ≡ t
   pub before : length (tokens_in pieces text) ≡ n
 
@@ -170,7 +170,7 @@ nth_gap : (c : Placed) (ts : Text) (k n : ℕ) (t : Token) → piece_at (bytes (
 nth_gap c ts k n t h x = record {
   pieces = gap k ∷ x.pieces;
   here = x.here;
-  behind = x.behind;
+  after = x.after;
   kind = x.kind;
   size = x.size;
   leads = (h, x.leads);
@@ -184,7 +184,7 @@ nth_token : (c : Placed) (ts : Text) (a : Kind) (k n : ℕ) (t : Token) → piec
 nth_token c ts a k n t h x = record {
   pieces = spelt a k ∷ x.pieces;
   here = x.here;
-  behind = x.behind;
+  after = x.after;
   kind = x.kind;
   size = x.size;
   leads = (h, x.leads);
@@ -204,7 +204,7 @@ nth (gap k ∷ ps) n (c ∷ ts) there t more l e = nth_gap c ts k n t l.0 (nth p
 nth (spelt a k ∷ ps) zero (c ∷ ts) there t more l e = record {
   pieces = [];
   here = c;
-  behind = ts;
+  after = ts;
   kind = a;
   size = k;
   leads = refl;
@@ -225,7 +225,7 @@ by_drops text f [] d a =
     inl (record {
       pieces = k.pieces;
       here = e.0;
-      behind = e.1;
+      after = e.1;
       leads = subst (λ x. Leads k.pieces text x) e.2 k.leads;
       fails = subst (λ (x : Text). piece_at (bytes x) ≡ Err f.kind) e.2 e.3;
       line = e.4;
@@ -238,7 +238,7 @@ by_drops text f (t ∷ more) d a =
     inr (record {
       pieces = x.pieces;
       here = x.here;
-      behind = x.behind;
+      after = x.after;
       kind = x.kind;
       size = x.size;
       leads = x.leads;
@@ -266,9 +266,9 @@ stuck_here (suc m) c rest k w h = rw h refl
 pub fails : (text : Text) (f : Fault) → FailsAt text f → tokens_of text ≡ Err f
 fails text f x =
     let found : Tokens = tokens_in x.pieces text in
-    let r = reached text (x.here ∷ x.behind) x.pieces x.leads in
+    let r = reached text (x.here ∷ x.after) x.pieces x.leads in
     let e : lexed text ≡ record { tokens = found; fault = Some (record { kind = f.kind; line = x.here.line }) } =
-    r.2 ∙ ap (ahead found) (stuck_here r.0 x.here x.behind f.kind r.1 x.fails) ∙ ap (λ t. record { tokens = t; fault = Some (record { kind = f.kind; line = x.here.line }) }) (append-nil found) in
+    r.2 ∙ ap (ahead found) (stuck_here r.0 x.here x.after f.kind r.1 x.fails) ∙ ap (λ t. record { tokens = t; fault = Some (record { kind = f.kind; line = x.here.line }) }) (append-nil found) in
     ap (at_most most_tokens) e ∙ ap (λ d. answer d (Some (record { kind = f.kind; line = x.here.line })) found) (few_dropped found x.few) ∙ ap (λ l. Err (record { kind = f.kind; line = l })) x.line
 
 token_here : (m : ℕ) (c : Placed) (rest : Text) (k : Kind) (n : ℕ) → length (c ∷ rest) ≤ m → piece_at (bytes (c ∷ rest)) ≡ Ok (spelt k n)
@@ -280,8 +280,8 @@ pub passes : (text : Text) (f : Fault) → PassesAt text f → tokens_of text �
 passes text f x =
     let found : Tokens = tokens_in x.pieces text in
     let t : Token = token x.here.line x.kind in
-    let r = reached text (x.here ∷ x.behind) x.pieces x.leads in
-    let h = token_here r.0 x.here x.behind x.kind x.size r.1 x.stands in
+    let r = reached text (x.here ∷ x.after) x.pieces x.leads in
+    let h = token_here r.0 x.here x.after x.kind x.size r.1 x.stands in
     let e : lexed text ≡ ahead found (ahead (t ∷ []) h.0) = r.2 ∙ ap (ahead found) h.1 in
     let d : drop most_tokens (found ++ (t ∷ h.0.tokens)) ≡ t ∷ h.0.tokens = ap (λ n. drop n (found ++ (t ∷ h.0.tokens))) (sym x.full) ∙ drop-append_seam found (t ∷ h.0.tokens) in
     let g : too_many_tokens ≡ f.kind = sym x.is in

@@ -87,8 +87,8 @@ greatest_plain = refl
 above_plain : read (codes "4294967296") ≡ is_at bad_number 1
 above_plain = refl
 
-letter_behind : read (codes "12ab") ≡ is_at bad_number 1
-letter_behind = refl
+letter_after : read (codes "12ab") ≡ is_at bad_number 1
+letter_after = refl
 
 -- ---- based numbers
 
@@ -133,15 +133,15 @@ wild_without_size = refl
 decimal_z : read (codes "4'd? 4'dz 4'dX") ≡ are (wild 4 0 15 ∷ wild 4 0 15 ∷ sized 4 0 ∷ [])
 decimal_z = refl
 
-gap_behind_a_lone_digit : read (codes "4'dz_ 4'dx__") ≡ are (wild 4 0 15 ∷ sized 4 0 ∷ [])
-gap_behind_a_lone_digit = refl
+gap_after_a_lone_digit : read (codes "4'dz_ 4'dx__") ≡ are (wild 4 0 15 ∷ sized 4 0 ∷ [])
+gap_after_a_lone_digit = refl
 
 wild_stands_alone : read (codes "4'd?1") ≡ is_at bad_number 1
 wild_stands_alone = refl
 
--- a `?` behind decimal digits is a mark
-question_behind_digits : read (codes "4'd1?a") ≡ are (sized 4 1 ∷ mark m.Question ∷ name (codes "a") ∷ [])
-question_behind_digits = refl
+-- a `?` after decimal digits is a mark
+question_after_digits : read (codes "4'd1?a") ≡ are (sized 4 1 ∷ mark m.Question ∷ name (codes "a") ∷ [])
+question_after_digits = refl
 
 widest : read (codes "128'hFFFFFFFFFFFFFFFFFFFFFFFFFFFFFFFF") ≡ are (sized 128 (2 ^ 128 - 1) ∷ [])
 widest = refl

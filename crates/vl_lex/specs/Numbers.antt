@@ -28,7 +28,7 @@ digits_length base (b ∷ bs) =
     if is_digit_of base b then prefix_len (is_in_digits base) bs + 1 else
     if is_x b || is_z b then prefix_len (λ c. c == 95) bs + 1 else 0
 
--- a letter, digit or `_` comes, which may not stand directly behind a number
+-- a letter, digit or `_` comes, which may not stand directly after a number
 abbrev pub goes_on : List ℕ → Bool
 goes_on [] = false
 goes_on (b ∷ bs) = begins_name b || is_digit b
@@ -65,7 +65,7 @@ format_at (b ∷ bs) = if b == 39 then format_sign bs else None
 abbrev pub plain_literal : ℕ → Literal
 plain_literal v = record { width = 32; sized = false; signed = true; value = v; wild = 0 }
 
--- a plain decimal, and what stands behind it
+-- a plain decimal, and what stands after it
 abbrev pub plain_number : List ℕ → List ℕ → Counted
 plain_number digits rest = let v = value_of 10 digits in
     unless (goes_on rest || nat_le (2 ^ 32) v) bad_number (Ok (plain_literal v, length digits))
@@ -108,7 +108,7 @@ based_number size format bs =
     let literal = literal_of_size size format.signed format.base (take n bs) in
     unless (n == 0 || goes_on (drop n bs)) bad_number (counted (length size + format.used + n) literal)
 
--- a number by what stands behind its first digits; an apostrophe that leads to no base begins no number
+-- a number by what stands after its first digits; an apostrophe that leads to no base begins no number
 abbrev pub number_by : List ℕ → Option Format → List ℕ → Counted
 number_by size (Some format) rest = based_number size format (drop format.used rest)
 number_by [] None rest = Err bad_token

@@ -34,7 +34,7 @@ fault_on wrong.TooWide line = f.TooWide line
 fault_on wrong.OpenString line = f.OpenString line
 fault_on wrong.Memory line = f.Memory
 
--- the definition has this fault too; no memory is wanted
+-- the definition has this fault too; and no memory is needed
 abbrev pub HasFault : {X : Type 0} → Result X FaultKind → Wrong → Type 0
 HasFault r wrong.BadToken = r ≡ Err bad_token
 HasFault r wrong.BadNumber = r ≡ Err bad_number
@@ -42,7 +42,7 @@ HasFault r wrong.TooWide = r ≡ Err too_wide
 HasFault r wrong.OpenString = r ≡ Err open_string
 HasFault r wrong.Memory = ⊥
 
--- the definition has this fault too, or memory was wanted
+-- the definition has this fault too, or out of memory
 abbrev pub IsWrong : {X : Type 0} → Result X FaultKind → Wrong → Type 0
 IsWrong r wrong.BadToken = r ≡ Err bad_token
 IsWrong r wrong.BadNumber = r ≡ Err bad_number
@@ -54,7 +54,7 @@ IsWrong r wrong.Memory = Unit {0}
 abbrev pub fault : FaultKind → ℕ → Fault
 fault kind line = record { kind = kind; line = line }
 
--- the text has this fault first, or memory was wanted
+-- the text has this fault first, or out of memory
 abbrev pub IsFirst : Result Tokens Fault → LexFault → Type 0
 IsFirst r (f.BadToken line) = r ≡ Err (fault bad_token line)
 IsFirst r (f.BadNumber line) = r ≡ Err (fault bad_number line)
@@ -133,7 +133,7 @@ inside within.Outside bs = 0
 inside within.Quoted bs = string_length false false bs
 inside within.Escaping bs = string_length false true bs
 
--- where the byte behind this one stands
+-- where the byte after this one stands
 abbrev pub after_byte : Within → ℕ → Within
 after_byte within.Outside b = if b == 34 then within.Quoted else within.Outside
 after_byte within.Quoted b = if b == 34 || b == 10 then within.Outside else if b == 92 then within.Escaping else within.Quoted
@@ -152,7 +152,7 @@ abbrev pub SpellsAlone : t.Spelled → Result Found Wrong → Type 0
 SpellsAlone r (Ok x) = r ≡ Ok (coded_kind x.kind, x.used)
 SpellsAlone r (Err w) = HasFault r w
 
--- the same, where the names and strings of a token want memory
+-- the same, where the names and strings of a token need memory
 abbrev pub Spells : t.Spelled → Result Found Wrong → Type 0
 Spells r (Ok x) = r ≡ Ok (coded_kind x.kind, x.used)
 Spells r (Err w) = IsWrong r w
@@ -167,12 +167,12 @@ abbrev pub StandsAlone : Result t.Piece FaultKind → Result code_piece.Piece Wr
 StandsAlone r (Ok p) = r ≡ Ok (piece_of p.token p.used)
 StandsAlone r (Err w) = HasFault r w
 
--- the same, where the names and strings of a token want memory
+-- the same, where the names and strings of a token need memory
 abbrev pub Stands : Result t.Piece FaultKind → Result code_piece.Piece Wrong → Type 0
 Stands r (Ok p) = r ≡ Ok (piece_of p.token p.used)
 Stands r (Err w) = IsWrong r w
 
--- why no token of this line was appended: there were as many as there may be, or memory was wanted
+-- why no token of this line was appended: there were as many as there may be, or out of memory
 abbrev pub PushFails : List code.Token → ℕ → LexFault → Type 0
 PushFails old line (f.TooManyTokens l) = (t.most_tokens ≤ length old) × (l ≡ line)
 PushFails old line f.Memory = Unit {0}
@@ -190,7 +190,7 @@ Takes old line None used new (Err e) = ⊥
 Takes old line (Some k) used new (Ok n) = (n ≡ used) × (new ≡ old ++ record { line = line; kind = k } ∷ []) × (length old < t.most_tokens)
 Takes old line (Some k) used new (Err e) = PushFails old line e
 
--- none stands there, and why, or memory was wanted
+-- none stands there, and why, or out of memory
 abbrev pub IsFault : Result t.Piece FaultKind → ℕ → LexFault → Type 0
 IsFault r line (f.BadToken l) = (r ≡ Err bad_token) × (l ≡ line)
 IsFault r line (f.BadNumber l) = (r ≡ Err bad_number) × (l ≡ line)

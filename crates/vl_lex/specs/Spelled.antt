@@ -10,7 +10,7 @@ abbrev pub size_of : Piece → ℕ
 size_of (gap n) = n
 size_of (spelt k n) = n
 
--- from here these pieces lead there: each stands where it begins, and the next begins behind it
+-- from here these pieces lead there: each stands where it begins, and the next begins after it
 abbrev pub Leads : List Piece → Text → Text → Type 0
 Leads [] ts there = ts ≡ there
 Leads (p ∷ ps) ts there = (piece_at (bytes ts) ≡ Ok p) × Leads ps (drop (size_of p) ts) there
@@ -30,9 +30,9 @@ AreTokens text ts = (ps : List Piece) × Leads ps text [] × (ts ≡ tokens_in p
 pub record FailsAt (text : Text) (f : Fault) : Type 0 where
   pub pieces : List Piece
   pub here : Placed
-  pub behind : Text
-  pub leads : Leads pieces text (here ∷ behind)
-  pub fails : piece_at (bytes (here ∷ behind)) ≡ Err f.kind
+  pub after : Text
+  pub leads : Leads pieces text (here ∷ after)
+  pub fails : piece_at (bytes (here ∷ after)) ≡ Err f.kind
   pub line : here.line ≡ f.line
   pub few : length (tokens_in pieces text) ≤ most_tokens
 
@@ -40,11 +40,11 @@ pub record FailsAt (text : Text) (f : Fault) : Type 0 where
 pub record PassesAt (text : Text) (f : Fault) : Type 0 where
   pub pieces : List Piece
   pub here : Placed
-  pub behind : Text
+  pub after : Text
   pub kind : Kind
   pub size : ℕ
-  pub leads : Leads pieces text (here ∷ behind)
-  pub stands : piece_at (bytes (here ∷ behind)) ≡ Ok (spelt kind size)
+  pub leads : Leads pieces text (here ∷ after)
+  pub stands : piece_at (bytes (here ∷ after)) ≡ Ok (spelt kind size)
   pub line : here.line ≡ f.line
   pub full : length (tokens_in pieces text) ≡ most_tokens
   pub is : f.kind ≡ too_many_tokens

@@ -50,14 +50,14 @@ abbrev pub longer : ℕ → ℕ → Result (List ℕ × ℕ) FaultKind → Resul
 longer b n (Ok s) = Ok (b ∷ s.0, n + s.1)
 longer b n (Err k) = Err k
 
--- a character of a string, and what `more` reads behind it
+-- a character of a string, and what `more` reads after it
 abbrev pub from_character : Result (Option (ℕ × ℕ)) FaultKind → List ℕ → (List ℕ → Result (List ℕ × ℕ) FaultKind)
     → Result (List ℕ × ℕ) FaultKind
 from_character (Err k) bs more = Err k
 from_character (Ok None) bs more = Ok ([], 1)
 from_character (Ok (Some p)) bs more = longer p.0 p.1 (more (drop p.1 bs))
 
--- The bytes of the string behind whose first quote these stand, and how many of them it has, in at most n
+-- The bytes of the string after whose first quote these stand, and how many of them it has, in at most n
 -- characters. The first of a line's end and another escape is the fault.
 abbrev pub string_from : ℕ → List ℕ → Result (List ℕ × ℕ) FaultKind
 string_from zero bs = Err open_string

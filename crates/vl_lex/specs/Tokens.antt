@@ -44,7 +44,7 @@ name_token bs = let n = name_length bs in short n (word_kind (take n bs)) n
 abbrev pub is_in_escaped : ℕ → Bool
 is_in_escaped = between 33 126
 
--- an escaped name, behind its backslash: one byte of 33 to 126 at least, and never a keyword (3.7.1)
+-- an escaped name, after its backslash: one byte of 33 to 126 at least, and never a keyword (3.7.1)
 abbrev pub escaped_token : List ℕ → Spelled
 escaped_token bs = let n = prefix_len is_in_escaped bs in unless (n == 0) bad_token (short n (name (take n bs)) (n + 1))
 
@@ -53,7 +53,7 @@ abbrev pub or_other : Option System → System
 or_other (Some a) = a
 or_other None = s.Other
 
--- a system name, behind its `$` (3.7.3)
+-- a system name, after its `$` (3.7.3)
 abbrev pub system_token : List ℕ → Spelled
 system_token bs = let n = name_length bs in unless (n == 0) bad_token (short n (system (or_other (entry systems (take n bs)))) (n + 1))
 
@@ -62,7 +62,7 @@ abbrev pub number_token : Counted → Spelled
 number_token (Ok l) = Ok (number l.0, l.1)
 number_token (Err k) = Err k
 
--- a string, by what stands behind its first quote
+-- a string, by what stands after its first quote
 abbrev pub string_token : Result (List ℕ × ℕ) FaultKind → Spelled
 string_token (Ok a) = Ok (str a.0, a.1 + 1)
 string_token (Err k) = Err k
@@ -122,7 +122,7 @@ abbrev pub lead_of : List ℕ → Lead
 lead_of [] = spelling
 lead_of (b ∷ bs) = if is_white b then white else if opens_attribute (b ∷ bs) then attribute else spelling
 
--- an attribute, by how many bytes lead from behind its `(*` to its end
+-- an attribute, by how many bytes lead from after its `(*` to its end
 abbrev pub attribute_piece : Option ℕ → Result Piece FaultKind
 attribute_piece None = Err bad_token
 attribute_piece (Some n) = Ok (gap (n + 2))
@@ -157,7 +157,7 @@ ahead ts l = record l { tokens = ts ++ l.tokens }
 abbrev pub stuck : FaultKind → ℕ → Lexed
 stuck kind line = record { tokens = []; fault = Some (record { kind = kind; line = line }) }
 
--- a piece that begins on this line, or why none stands here, and what `more` reads behind it
+-- a piece that begins on this line, or why none stands here, and what `more` reads after it
 abbrev pub from_piece : Result Piece FaultKind → ℕ → Text → (Text → Lexed) → Lexed
 from_piece (Ok (gap n)) line ts more = more (drop n ts)
 from_piece (Ok (spelt k n)) line ts more = ahead (token line k ∷ []) (more (drop n ts))
@@ -177,7 +177,7 @@ lexed ts = lexed_from (length ts) ts
 abbrev pub most_tokens : ℕ
 most_tokens = 1048576
 
--- what is found by this many tokens at most: those behind them, the fault behind those found, and the tokens
+-- what is found by this many tokens at most: those after them, the fault after those found, and the tokens
 abbrev pub answer : Tokens → Option Fault → Tokens → Result Tokens Fault
 answer (token line kind ∷ more) fault found = Err (record { kind = too_many_tokens; line = line })
 answer [] (Some f) found = Err f

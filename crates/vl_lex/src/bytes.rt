@@ -5,7 +5,7 @@ ghost use Rattle.std.specs.List.{prefix_len};
 ghost use Rattle.vl_pre.specs.Bytes as b;
 ghost use Rattle.vl_lex.specs.Tokens.{is_in_escaped};
 
-/// The first byte and those behind it.
+/// The first byte and those after it.
 pub fn next(bytes: &[u8]) -> Option<(u8, &[u8])>
     ensures { MatchOption result (bytes.now ≡ []) (λ x. bytes.now ≡ x.0 ∷ x.1.now) }
 {
@@ -15,8 +15,8 @@ pub fn next(bytes: &[u8]) -> Option<(u8, &[u8])>
     }
 }
 
-/// What stands behind the first `n` bytes.
-pub fn behind(bytes: &[u8], n: usize) -> &[u8]
+/// What stands after the first `n` bytes.
+pub fn after(bytes: &[u8], n: usize) -> &[u8]
     requires { n ≤ length bytes.now }
     ensures { result.now ≡ drop n bytes.now }
 {
@@ -69,24 +69,24 @@ pub fn name_length(bytes: &[u8]) -> usize
     ensures within { result ≤ length bytes.now }
 {
     match next(bytes) {
-        Some((first, behind)) => name_length_by(first, behind),
+        Some((first, after)) => name_length_by(first, after),
         None => 0,
     }
 }
 
-// The same, by the first byte and those behind it.
-fn name_length_by(first: u8, behind: &[u8]) -> usize
-    ensures count { result ≡ b.name_length (first ∷ behind.now) }
-    ensures within { result ≤ length behind.now + 1 }
+// The same, by the first byte and those after it.
+fn name_length_by(first: u8, after: &[u8]) -> usize
+    ensures count { result ≡ b.name_length (first ∷ after.now) }
+    ensures within { result ≤ length after.now + 1 }
 {
     if begins_name(first) {
-        count_in_name(behind) + 1
+        count_in_name(after) + 1
     } else {
         0
     }
 }
 
-/// How many bytes the escaped name behind a backslash has.
+/// How many bytes the escaped name after a backslash has.
 pub fn escaped_length(bytes: &[u8]) -> usize
     ensures count { result ≡ prefix_len is_in_escaped bytes.now }
     ensures within { result ≤ length bytes.now }

@@ -184,8 +184,8 @@ fn wild_step(bits: u32, wild: u128, byte: u8) -> u128
     }
 }
 
-// The wild bits of digits behind those before them, modulo 2^128.
-fn wild_behind(bits: u32, before: u128, digits: &[u8]) -> u128
+// The wild bits of digits after those before them, modulo 2^128.
+fn wild_after(bits: u32, before: u128, digits: &[u8]) -> u128
     requires { bits ≤ 4 }
     ensures { result ≡ d.positional (2 ^ bits) (before ∷ map (d.z_bits bits) (d.digits_in digits.now)) % 2 ^ 128 }
 {
@@ -202,6 +202,6 @@ pub fn wild_bits(base: Base, width: u32, digits: &[u8]) -> u128
     ensures value { result ≡ d.wild_of base width digits.now }
     ensures fits { result < 2 ^ width }
 {
-    let wild = wild_behind(base.digit_bits(), wild_left(width, digits), digits);
+    let wild = wild_after(base.digit_bits(), wild_left(width, digits), digits);
     low_bits(width, wild)
 }

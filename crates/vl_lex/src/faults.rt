@@ -3,13 +3,13 @@
 ghost use Rattle.std.specs.Prelude.{◌≡◌};
 ghost use Rattle.vl_lex.specs.Reading.{fault_on};
 
-/// Why a clean text has no tokens: its first fault, with the line of the first byte of what is bad, or want of memory.
+/// Why a clean text has no tokens: its first fault, with the line of the first byte of what is bad, or out of memory.
 #[derive(Clone, Copy, Debug, PartialEq, Eq)]
 pub enum LexFault {
     /// No token begins so: a byte that begins none, a name of more than 255 bytes, an empty escaped or system name, an apostrophe
     /// without a base, another escape in a string, or an attribute without end.
     BadToken { line: u32 },
-    /// A number without digits, with a digit of another base, with a letter behind it, of size 0, or a plain decimal above 2^32-1.
+    /// A number without digits, with a digit of another base, with a letter after it, of size 0, or a plain decimal above 2^32-1.
     BadNumber { line: u32 },
     /// A number of more than 128 bits, or one without size of more than 32.
     TooWide { line: u32 },

@@ -6,7 +6,7 @@ ghost use Rattle.vl_lex.specs.Numbers as n;
 ghost use Rattle.vl_lex.specs.Digits.{value_of};
 ghost use Rattle.vl_lex.specs.Reading.{IsWidth, IsLiteral, IsFormat, Tells, format_of};
 
-use crate::bytes::{begins_name, behind, is_digit, next};
+use crate::bytes::{begins_name, after, is_digit, next};
 use crate::digits::{Base, digits_value, is_digit_of, is_x, is_z, low_bits, wild_bits};
 use crate::faults::Wrong;
 use dt_core::limits::MAX_WIDTH;
@@ -69,26 +69,26 @@ fn count_gaps(bytes: &[u8]) -> usize
     bytes.iter().take_while(|byte| **byte == b'_').count()
 }
 
-// How many bytes of digits stand behind a base: the first isn't `_`, and of digits a decimal `x` or `z` is alone.
+// How many bytes of digits stand after a base: the first isn't `_`, and of digits a decimal `x` or `z` is alone.
 fn digits_length(base: Base, bytes: &[u8]) -> usize
     ensures count { result ≡ n.digits_length base bytes.now }
     ensures within { result ≤ length bytes.now }
 {
     match next(bytes) {
-        Some((first, behind)) => digits_length_by(base, first, behind),
+        Some((first, after)) => digits_length_by(base, first, after),
         None => 0,
     }
 }
 
-// The same, by the first byte and those behind it.
-fn digits_length_by(base: Base, first: u8, behind: &[u8]) -> usize
-    ensures count { result ≡ n.digits_length base (first ∷ behind.now) }
-    ensures within { result ≤ length behind.now + 1 }
+// The same, by the first byte and those after it.
+fn digits_length_by(base: Base, first: u8, after: &[u8]) -> usize
+    ensures count { result ≡ n.digits_length base (first ∷ after.now) }
+    ensures within { result ≤ length after.now + 1 }
 {
     if is_digit_of(base, first) {
-        count_digits(base, behind) + 1
+        count_digits(base, after) + 1
     } else if is_x(first) || is_z(first) {
-        count_gaps(behind) + 1
+        count_gaps(after) + 1
     } else {
         0
     }
@@ -104,7 +104,7 @@ fn goes_on(bytes: &[u8]) -> bool
     }
 }
 
-// The base at the head, behind so many bytes of the format.
+// The base at the head, after so many bytes of the format.
 fn format_base(signed: bool, before: usize, bytes: &[u8]) -> Option<Format>
     requires { before < 3 }
     ensures format { IsFormat (n.format_base signed (before + 1) bytes.now) result }
@@ -118,13 +118,13 @@ fn format_base(signed: bool, before: usize, bytes: &[u8]) -> Option<Format>
     })
 }
 
-// `s` or not, and the base, behind an apostrophe.
+// `s` or not, and the base, after an apostrophe.
 fn format_sign(bytes: &[u8]) -> Option<Format>
     ensures format { IsFormat (n.format_sign bytes.now) result }
     ensures used { IfSome result (λ f. f.used ≤ 1 + length bytes.now) }
 {
     match next(bytes) {
-        Some((b's' | b'S', behind)) => format_base(true, 2, behind),
+        Some((b's' | b'S', after)) => format_base(true, 2, after),
         _ => format_base(false, 1, bytes),
     }
 }
@@ -135,12 +135,12 @@ fn format_at(bytes: &[u8]) -> Option<Format>
     ensures used { IfSome result (λ f. f.used ≤ length bytes.now) }
 {
     match next(bytes) {
-        Some((b'\'', behind)) => format_sign(behind),
+        Some((b'\'', after)) => format_sign(after),
         _ => None,
     }
 }
 
-// The number of these digits without a size, behind which stand those bytes.
+// The number of these digits without a size, after which stand those bytes.
 fn read_plain(digits: &[u8], rest: &[u8]) -> Result<Number, Wrong>
     ensures tells { Tells (n.plain_number digits.now rest.now) result }
     ensures used { IfOk result (λ x. x.used ≡ length digits.now) }
@@ -254,7 +254,7 @@ pub fn read_number(bytes: &[u8]) -> Result<Number, Wrong>
 {
     let (size, rest) = bytes.split_at(count_decimal(bytes));
     if let Some(format) = format_at(rest) {
-        return read_based(size, format, behind(rest, format.used));
+        return read_based(size, format, after(rest, format.used));
     }
     if size.is_empty() {
         return Err(Wrong::BadToken);

@@ -5,7 +5,7 @@ ghost use Rattle.vl_lex.specs.Tokens as t;
 ghost use Rattle.vl_lex.specs.Reading.{Stands, StandsAlone};
 
 use crate::attributes::{close_length, opens_attribute};
-use crate::bytes::{behind, is_white};
+use crate::bytes::{after, is_white};
 use crate::faults::Wrong;
 use crate::tokens::read_token;
 use std::alloc::Global;
@@ -24,7 +24,7 @@ fn read_attribute(bytes: &[u8]) -> Result<Piece, Wrong>
     ensures stands { StandsAlone (t.piece_by t.attribute bytes.now) result }
     ensures used { IfOk result (λ p. (0 < p.used) × (p.used ≤ length bytes.now)) }
 {
-    match close_length(behind(bytes, 2)) {
+    match close_length(after(bytes, 2)) {
         Some(count) => Ok(Piece {
             token: None,
             used: count + 2,

@@ -5,7 +5,7 @@ ghost use Rattle.std.specs.List.{prefix_len};
 ghost use Rattle.vl_lex.specs.Strings as s;
 ghost use Rattle.vl_lex.specs.Reading.{IsCharacter, IsCharacterOrEnd, Quotes};
 
-use crate::bytes::{behind, next};
+use crate::bytes::{after, next};
 use crate::digits::digits_value;
 use crate::faults::Wrong;
 use dt_core::text::Text;
@@ -18,7 +18,7 @@ pub struct Character {
     pub used: usize,
 }
 
-/// A string and how many bytes its spelling has behind its first quote.
+/// A string and how many bytes its spelling has after its first quote.
 #[derive(Drop)]
 pub struct Quoted {
     pub text: Text,
@@ -96,7 +96,7 @@ fn character_at(bytes: &[u8]) -> Result<Option<Character>, Wrong>
     if ends_line(bytes) {
         return Err(Wrong::OpenString);
     }
-    let Some((first, behind)) = next(bytes) else {
+    let Some((first, after)) = next(bytes) else {
         return Err(Wrong::OpenString);
     };
     if first == b'"' {
@@ -108,7 +108,7 @@ fn character_at(bytes: &[u8]) -> Result<Option<Character>, Wrong>
             used: 1,
         }));
     }
-    match escape(behind) {
+    match escape(after) {
         Some(character) => Ok(Some(Character {
             byte: character.byte,
             used: character.used + 1,
@@ -117,7 +117,7 @@ fn character_at(bytes: &[u8]) -> Result<Option<Character>, Wrong>
     }
 }
 
-/// The string behind its first quote.
+/// The string after its first quote.
 pub fn read_string(alloc: Global, bytes: &[u8]) -> Result<Quoted, Wrong>
     ensures quotes { Quotes (s.string_at bytes.now) result }
     ensures used { IfOk result (λ x. (0 < x.used) × (x.used ≤ length bytes.now)) }
@@ -130,7 +130,7 @@ pub fn read_string(alloc: Global, bytes: &[u8]) -> Result<Quoted, Wrong>
         if text.push(character.byte).is_err() {
             return Err(Wrong::Memory);
         }
-        rest = behind(rest, character.used);
+        rest = after(rest, character.used);
     }
     Ok(Quoted {
         text,

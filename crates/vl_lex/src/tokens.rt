@@ -9,7 +9,7 @@ ghost use Rattle.vl_lex.specs.Numbers.{number_at};
 ghost use Rattle.vl_lex.specs.Strings.{string_at};
 ghost use Rattle.vl_lex.specs.Reading.{Spells, SpellsAlone};
 
-use crate::bytes::{begins_name, behind, escaped_length, is_digit, name_length};
+use crate::bytes::{begins_name, after, escaped_length, is_digit, name_length};
 use crate::faults::Wrong;
 use crate::numbers::read_number;
 use crate::strings::read_string;
@@ -53,7 +53,7 @@ fn read_name(alloc: Global, bytes: &[u8]) -> Result<Found, Wrong>
     }
 }
 
-// The escaped name behind its backslash.
+// The escaped name after its backslash.
 fn read_escaped(alloc: Global, bytes: &[u8]) -> Result<Found, Wrong>
     ensures spells { Spells (t.escaped_token bytes.now) result }
     ensures used { IfOk result (λ f. (0 < f.used) × (f.used ≤ length bytes.now + 1)) }
@@ -71,7 +71,7 @@ fn read_escaped(alloc: Global, bytes: &[u8]) -> Result<Found, Wrong>
     }
 }
 
-// The system name behind its `$`.
+// The system name after its `$`.
 fn read_system(bytes: &[u8]) -> Result<Found, Wrong>
     ensures spells { SpellsAlone (t.system_token bytes.now) result }
     ensures used { IfOk result (λ f. (0 < f.used) × (f.used ≤ length bytes.now + 1)) }
@@ -113,7 +113,7 @@ fn read_number_token(bytes: &[u8]) -> Result<Found, Wrong>
     })
 }
 
-// The string behind its first quote.
+// The string after its first quote.
 fn read_string_token(alloc: Global, bytes: &[u8]) -> Result<Found, Wrong>
     ensures spells { Spells (t.string_token (string_at bytes.now)) result }
     ensures used { IfOk result (λ f. (0 < f.used) × (f.used ≤ length bytes.now + 1)) }
@@ -140,13 +140,13 @@ pub fn read_token(alloc: Global, first: u8, bytes: &[u8]) -> Result<Found, Wrong
         return read_number_token(bytes);
     }
     if first == b'$' {
-        return read_system(behind(bytes, 1));
+        return read_system(after(bytes, 1));
     }
     if first == b'\\' {
-        return read_escaped(alloc, behind(bytes, 1));
+        return read_escaped(alloc, after(bytes, 1));
     }
     if first == b'"' {
-        return read_string_token(alloc, behind(bytes, 1));
+        return read_string_token(alloc, after(bytes, 1));
     }
     read_mark(bytes)
 }

@@ -14,9 +14,9 @@ use Rattle.vl_pre.specs.declared.names.Entry.{Entry}
 use Rattle.vl_pre.specs.declared.conditions.Branch.{Branch}
 use Rattle.vl_pre.specs.declared.conditions.Branch.TheVariants as b
 use Rattle.vl_pre.specs.declared.conditions.Condition as held
-use Rattle.vl_pre.specs.declared.place.Place as code
+use Rattle.vl_pre.specs.declared.context.Context as code
 use Rattle.vl_pre.specs.Pieces.{Head, line_comment, block_comment, a_string, escaped_name, a_backtick, any_other, InLine, continued, inside}
-use Rattle.vl_pre.specs.Directives.{Directive, define, undef, ifdef, ifndef, elsif, otherwise, endif, passed_over, include, Ticked, no_name, a_directive, a_macro, Condition, Macros, Place}
+use Rattle.vl_pre.specs.Directives.{Directive, define, undef, ifdef, ifndef, elsif, otherwise, endif, passed_over, include, Ticked, no_name, a_directive, a_macro, Condition, Macros, Context}
 
 -- what begins at a place
 abbrev pub head_of : First → Head
@@ -73,5 +73,5 @@ abbrev pub macros_of : {S : Type 0} → IndexMap (List ℕ) (List ℕ) S → Mac
 macros_of m name = get (pointwise nat_eq) m name
 
 -- what is defined and open; the code keeps the innermost condition last
-abbrev pub place_of : code.Place → Place
-place_of p = record { macros = macros_of p.macros; conditions = map condition_of (reverse p.conditions.items) }
+abbrev pub context_of : code.Context → Context
+context_of p = record { macros = macros_of p.macros; conditions = map condition_of (reverse p.conditions.items) }

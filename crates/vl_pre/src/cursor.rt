@@ -5,9 +5,11 @@ ghost use Rattle.vl_pre.specs.Bytes as b;
 ghost use Rattle.vl_pre.specs.Pieces as p;
 ghost use Rattle.vl_pre.specs.Reading.{Closes, Passes};
 
-use crate::fault::PreFault;
-use crate::pieces::{name_length, next, stops_line};
+use crate::bytes::{name_length, next};
+use crate::fault::in_text;
+use crate::pieces::stops_line;
 use std::marker::Model;
+use vl_tree::fault::{FaultKind, StaticFault};
 
 /// A place in a text from which it is read on. A contract sees the text from there on, with the line of each byte.
 #[derive(Drop)]
@@ -104,7 +106,7 @@ fn closes(bytes: &[u8]) -> bool
     bytes.starts_with(b"*/")
 }
 
-// Goes on behind the next `*/`, and says whether there is one.
+// Goes on after the next `*/`, and says whether there is one.
 fn skip_to_close(at: &mut Cursor) -> bool
     ensures { Closes at.old at.new result }
 {
@@ -117,8 +119,8 @@ fn skip_to_close(at: &mut Cursor) -> bool
     true
 }
 
-/// Goes on behind the comment from `/*` to `*/`, and gives the line on which it begins.
-pub fn skip_block(at: &mut Cursor) -> Result<u32, PreFault>
+/// Goes on after the comment from `/*` to `*/`, and gives the line on which it begins.
+pub fn skip_block(at: &mut Cursor) -> Result<u32, StaticFault>
     ensures { Passes at.old at.new result }
 {
     let Some((_, line)) = at.next() else {
@@ -128,7 +130,7 @@ pub fn skip_block(at: &mut Cursor) -> Result<u32, PreFault>
     if skip_to_close(at) {
         Ok(line)
     } else {
-        Err(PreFault::OpenComment { line })
+        Err(in_text(FaultKind::OpenComment, line))
     }
 }
 

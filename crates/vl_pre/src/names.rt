@@ -1,4 +1,4 @@
-//! Names behind backticks, and the NAME of a directive.
+//! Names after backticks, and the NAME of a directive.
 
 ghost use Rattle.std.specs.Prelude.{◌≡◌, ◌<◌, length, codes, option_map};
 ghost use Rattle.vl_pre.specs.Bytes as b;
@@ -6,9 +6,10 @@ ghost use Rattle.vl_pre.specs.Directives as d;
 ghost use Rattle.vl_pre.specs.Reading.{Finds, Moves};
 ghost use Rattle.vl_pre.specs.Views as v;
 
+use crate::bytes::{at_line_end, is_white, next};
 use crate::cursor::{Cursor, name_at, skip, skip_block};
-use crate::fault::PreFault;
-use crate::pieces::{at_line_end, is_white, next};
+use crate::fault::in_text;
+use vl_tree::fault::{FaultKind, StaticFault};
 
 /// A directive.
 #[derive(Clone, Copy, Debug)]
@@ -25,7 +26,7 @@ pub enum Directive {
     Include,
 }
 
-/// What stands behind a backtick.
+/// What stands after a backtick.
 #[derive(Clone, Copy, Debug)]
 pub enum Ticked {
     NoName,
@@ -113,8 +114,8 @@ fn directive_of(name: &[u8]) -> Option<Directive>
     find(DIRECTIVES.as_slice(), name)
 }
 
-/// What the name behind a backtick makes it.
-pub fn behind_tick(name: &[u8]) -> Ticked
+/// What the name after a backtick makes it.
+pub fn after_tick(name: &[u8]) -> Ticked
     ensures { v.ticked_of result ≡ d.ticked name.now }
 {
     match next(name) {
@@ -168,9 +169,9 @@ fn at_gap(bytes: &[u8]) -> bool
     at_comment(bytes) || at_blank(bytes)
 }
 
-// Goes on behind the comment or the blank at the head.
-fn skip_one(at: &mut Cursor) -> Result<(), PreFault>
-    ensures { Moves at.new (d.behind_one (b.begins (codes "/*") (b.bytes at.old)) at.old) result }
+// Goes on after the comment or the blank at the head.
+fn skip_one(at: &mut Cursor) -> Result<(), StaticFault>
+    ensures { Moves at.new (d.after_one (b.begins (codes "/*") (b.bytes at.old)) at.old) result }
 {
     if at_comment(at.bytes()) {
         skip_block(at)?;
@@ -180,9 +181,9 @@ fn skip_one(at: &mut Cursor) -> Result<(), PreFault>
     Ok(())
 }
 
-// Goes on behind blanks and comments on the line.
-fn skip_gap(at: &mut Cursor) -> Result<(), PreFault>
-    ensures { Moves at.new (d.behind_gap (length at.old) at.old) result }
+// Goes on after blanks and comments on the line.
+fn skip_gap(at: &mut Cursor) -> Result<(), StaticFault>
+    ensures { Moves at.new (d.after_gap (length at.old) at.old) result }
 {
     while at_gap(at.bytes()) {
         skip_one(at)?;
@@ -191,16 +192,16 @@ fn skip_gap(at: &mut Cursor) -> Result<(), PreFault>
 }
 
 /// The NAME of the directive whose backtick stands on this line.
-pub fn name_of<'a>(at: &mut Cursor<'a>, line: u32) -> Result<&'a [u8], PreFault>
+pub fn name_of<'a>(at: &mut Cursor<'a>, line: u32) -> Result<&'a [u8], StaticFault>
     ensures { Finds at.new (d.name_of line at.old) result }
 {
     skip_gap(at)?;
     let name = name_at(at);
-    match behind_tick(name) {
+    match after_tick(name) {
         Ticked::Macro => {
             skip(at, name.len());
             Ok(name)
         }
-        _ => Err(PreFault::BadDirective { line }),
+        _ => Err(in_text(FaultKind::BadDirective, line)),
     }
 }

@@ -1,6 +1,6 @@
 //! Texts with their clean text, and texts with a fault.
 
-use crate::{Clean, PreFault, preprocess};
+use crate::{Clean, StaticFault, preprocess};
 use dt_core::text::Text;
 use std::alloc::Global;
 use std::test::*;
@@ -212,68 +212,74 @@ static CASES: [Case; 43] = [
     },
 ];
 
-static REFUSED: [(&[u8], PreFault); 42] = [
-    (b"a\n\x7f", PreFault::BadByte { line: 2 }),
-    (b"a\x0b", PreFault::BadByte { line: 1 }),
-    (b"\"\n\"\xc3\xa9\"", PreFault::BadByte { line: 2 }),
-    (b"\\a\x80", PreFault::BadByte { line: 1 }),
-    (b"`define A \n`define B \x01", PreFault::BadByte { line: 2 }),
-    (b"`define A \\\n\x01", PreFault::BadByte { line: 2 }),
-    (b"`timescale \x01", PreFault::BadByte { line: 1 }),
-    (b"`ifdef A\n`else\n\x01", PreFault::BadByte { line: 3 }),
-    (b"a\n/*/ b\n", PreFault::OpenComment { line: 2 }),
-    (b"`ifdef A\n/*", PreFault::OpenComment { line: 2 }),
-    (b"`define A \\\n/*", PreFault::OpenComment { line: 2 }),
-    (b"`define /*", PreFault::OpenComment { line: 1 }),
-    (b"`timescale /*\n", PreFault::OpenComment { line: 1 }),
-    (b"`define A(x) x", PreFault::BadDirective { line: 1 }),
-    (b"\n`define", PreFault::BadDirective { line: 2 }),
-    (b"`define\nA", PreFault::BadDirective { line: 1 }),
-    (b"`define // A", PreFault::BadDirective { line: 1 }),
-    (b"`define \\A 1", PreFault::BadDirective { line: 1 }),
-    (b"`define \xe9", PreFault::BadDirective { line: 1 }),
-    (b"`define 1", PreFault::BadDirective { line: 1 }),
-    (b"`define endif", PreFault::BadDirective { line: 1 }),
-    (b"`undef", PreFault::BadDirective { line: 1 }),
-    (b"`undef undef", PreFault::BadDirective { line: 1 }),
-    (b"`ifdef else", PreFault::BadDirective { line: 1 }),
-    (b"`ifdef A\n`ifndef\n", PreFault::BadDirective { line: 2 }),
+static REFUSED: [(&[u8], StaticFault); 42] = [
+    (b"a\n\x7f", StaticFault::BadByte { line: 2 }),
+    (b"a\x0b", StaticFault::BadByte { line: 1 }),
+    (b"\"\n\"\xc3\xa9\"", StaticFault::BadByte { line: 2 }),
+    (b"\\a\x80", StaticFault::BadByte { line: 1 }),
+    (
+        b"`define A \n`define B \x01",
+        StaticFault::BadByte { line: 2 },
+    ),
+    (b"`define A \\\n\x01", StaticFault::BadByte { line: 2 }),
+    (b"`timescale \x01", StaticFault::BadByte { line: 1 }),
+    (b"`ifdef A\n`else\n\x01", StaticFault::BadByte { line: 3 }),
+    (b"a\n/*/ b\n", StaticFault::OpenComment { line: 2 }),
+    (b"`ifdef A\n/*", StaticFault::OpenComment { line: 2 }),
+    (b"`define A \\\n/*", StaticFault::OpenComment { line: 2 }),
+    (b"`define /*", StaticFault::OpenComment { line: 1 }),
+    (b"`timescale /*\n", StaticFault::OpenComment { line: 1 }),
+    (b"`define A(x) x", StaticFault::BadDirective { line: 1 }),
+    (b"\n`define", StaticFault::BadDirective { line: 2 }),
+    (b"`define\nA", StaticFault::BadDirective { line: 1 }),
+    (b"`define // A", StaticFault::BadDirective { line: 1 }),
+    (b"`define \\A 1", StaticFault::BadDirective { line: 1 }),
+    (b"`define \xe9", StaticFault::BadDirective { line: 1 }),
+    (b"`define 1", StaticFault::BadDirective { line: 1 }),
+    (b"`define endif", StaticFault::BadDirective { line: 1 }),
+    (b"`undef", StaticFault::BadDirective { line: 1 }),
+    (b"`undef undef", StaticFault::BadDirective { line: 1 }),
+    (b"`ifdef else", StaticFault::BadDirective { line: 1 }),
+    (
+        b"`ifdef A\n`ifndef\n",
+        StaticFault::BadDirective { line: 2 },
+    ),
     (
         b"`define A\n`ifdef A\n`elsif\n",
-        PreFault::BadDirective { line: 3 },
+        StaticFault::BadDirective { line: 3 },
     ),
-    (b"`elsif", PreFault::BadDirective { line: 1 }),
-    (b"\n`include \"a.v\"", PreFault::BadDirective { line: 2 }),
-    (b"a ` b", PreFault::BadDirective { line: 1 }),
-    (b"`1", PreFault::BadDirective { line: 1 }),
+    (b"`elsif", StaticFault::BadDirective { line: 1 }),
+    (b"\n`include \"a.v\"", StaticFault::BadDirective { line: 2 }),
+    (b"a ` b", StaticFault::BadDirective { line: 1 }),
+    (b"`1", StaticFault::BadDirective { line: 1 }),
     (
         b"`define A `undef B\n\n`A",
-        PreFault::BadDirective { line: 3 },
+        StaticFault::BadDirective { line: 3 },
     ),
     (
         b"`define A `\n`define B `A\n`B",
-        PreFault::BadDirective { line: 3 },
+        StaticFault::BadDirective { line: 3 },
     ),
-    (b"wire `FOO;", PreFault::UnknownMacro { line: 1 }),
-    (b"`define A `B\n\n`A", PreFault::UnknownMacro { line: 3 }),
+    (b"wire `FOO;", StaticFault::UnknownMacro { line: 1 }),
+    (b"`define A `B\n\n`A", StaticFault::UnknownMacro { line: 3 }),
     (
         b"`define A 1\n`undef A\n`A",
-        PreFault::UnknownMacro { line: 3 },
+        StaticFault::UnknownMacro { line: 3 },
     ),
-    (b"`define A `A\n`A", PreFault::MacroDepth { line: 2 }),
-    (b"`ifdef A\n`else\n", PreFault::Unbalanced { line: 1 }),
-    (b"`ifdef A\n`ifdef B\n", PreFault::Unbalanced { line: 2 }),
-    (b"\n`endif", PreFault::Unbalanced { line: 2 }),
-    (b"`else", PreFault::Unbalanced { line: 1 }),
-    (b"`elsif A", PreFault::Unbalanced { line: 1 }),
+    (b"`define A `A\n`A", StaticFault::MacroDepth { line: 2 }),
+    (b"`ifdef A\n`else\n", StaticFault::Unbalanced { line: 1 }),
+    (b"`ifdef A\n`ifdef B\n", StaticFault::Unbalanced { line: 2 }),
+    (b"\n`endif", StaticFault::Unbalanced { line: 2 }),
+    (b"`else", StaticFault::Unbalanced { line: 1 }),
+    (b"`elsif A", StaticFault::Unbalanced { line: 1 }),
     (
         b"`ifdef A `else\n`elsif B\n`endif",
-        PreFault::Unbalanced { line: 2 },
+        StaticFault::Unbalanced { line: 2 },
     ),
 ];
 
-// The place behind these bytes, where the clean text has them from this place on, on this line.
-fn behind(clean: &Clean, from: u32, line: u32, bytes: &[u8]) -> Option<u32> {
+// The place after these bytes, where the clean text has them from this place on, on this line.
+fn after(clean: &Clean, from: u32, line: u32, bytes: &[u8]) -> Option<u32> {
     let mut k = from;
     for byte in bytes {
         if k >= clean.len() || clean.line(k) != line || clean.byte(k) != Some(*byte) {
@@ -288,7 +294,7 @@ fn behind(clean: &Clean, from: u32, line: u32, bytes: &[u8]) -> Option<u32> {
 fn is(clean: &Clean, wanted: &[(u32, &[u8])]) -> bool {
     let mut from: u32 = 0;
     for (line, bytes) in wanted {
-        let Some(next) = behind(clean, from, *line, *bytes) else {
+        let Some(next) = after(clean, from, *line, *bytes) else {
             return false;
         };
         from = next;
@@ -312,12 +318,12 @@ fn chained(alloc: Global, first: &[u8], last: &[u8]) -> Result<Text, Fail> {
     Ok(Text::of_bytes(text))
 }
 
-static CHAINS: [(&[u8], &[u8], Option<PreFault>); 5] = [
+static CHAINS: [(&[u8], &[u8], Option<StaticFault>); 5] = [
     (b"1", b"M15", None),
-    (b"1", b"M16", Some(PreFault::MacroDepth { line: 18 })),
-    (b"`X", b"M14", Some(PreFault::UnknownMacro { line: 18 })),
-    (b"`X", b"M15", Some(PreFault::UnknownMacro { line: 18 })),
-    (b"`X", b"M16", Some(PreFault::MacroDepth { line: 18 })),
+    (b"1", b"M16", Some(StaticFault::MacroDepth { line: 18 })),
+    (b"`X", b"M14", Some(StaticFault::UnknownMacro { line: 18 })),
+    (b"`X", b"M15", Some(StaticFault::UnknownMacro { line: 18 })),
+    (b"`X", b"M16", Some(StaticFault::MacroDepth { line: 18 })),
 ];
 
 #[test]
@@ -392,7 +398,7 @@ fn the_byte_beyond_the_most_is_the_fault(rt: HostRuntime) -> Result<(), Fail> {
     assert!(rt; text.bytes().len() < 1_000_000);
     assert_eq!(rt;
         preprocess(rt.alloc(), text.bytes()).err(),
-        Some(PreFault::TooLong { line: 19 })
+        Some(StaticFault::TooLong { line: 19 })
     );
     Ok(())
 }

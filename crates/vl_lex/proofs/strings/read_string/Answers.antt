@@ -14,7 +14,7 @@ loop-text-preserved c =
     let e = rw c.in-Some.is at c.in_ok-character.ensures.character in
     let u = rw c.in-Some.is at c.in_ok-character.ensures.used in
     let t : c.push.new.self ≡ c.loop-text.text ++ c.in-Some.character.byte ∷ [] = search rules in
-    let b = c.behind-rest.ensures in
+    let b = c.after-rest.ensures in
     let d = length-drop c.in-Some.character.used c.loop-text.rest.now in
     record {
       so_far = rw (t, b) (string_more c.args.bytes.now c.loop-text.text c.loop-text.rest.now c.in-Some.character.byte c.in-Some.character.used c.loop-text.invariant.within

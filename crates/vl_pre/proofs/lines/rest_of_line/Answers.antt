@@ -2,7 +2,7 @@ use Rattle.std.proofs.Common.{rules, ◌≡◌, ◌≤◌, [], true, false, List
 use Rattle.std.proofs.lemmas.Result.{err_from_is_err_and}
 use Rattle.vl_pre.specs.Bytes.{bytes}
 use Rattle.vl_pre.specs.Pieces.{rest_of_line}
-use Rattle.vl_pre.specs.Reading.{told, ended}
+use Rattle.vl_pre.specs.Reading.{fault_of, ended}
 use Rattle.vl_pre.proofs.LineLaws.{rest_ended, some_left}
 use Rattle.vl_pre.proofs.StepLaws.{ReadsLine, in_line_shorter, line_reads_more, line_reads_fault}
 use Rattle.vl_pre.proofs.WriteLaws.{collects_here, collects_done}
@@ -19,7 +19,7 @@ returns-in_err-read_next c =
     let on : c.ended.result ≡ false = search rules in
     let goes_on : ended (bytes c.loop-body.at) ≡ false = ap ended (sym c.bytes.ensures) ∙ sym c.ended.ensures ∙ on in
     let p = err_from_is_err_and c.from_residual.result c.from_residual.ensures.1 in
-    rw (p.1, p.2) (line_reads_fault _ c.loop-body.body.items c.args.continues c.loop-body.at (told c.in_err-read_next.field-0.0) c.loop-body.invariant goes_on c.in_err-read_next.ensures)
+    rw (p.1, p.2) (line_reads_fault _ c.loop-body.body.items c.args.continues c.loop-body.at (fault_of c.in_err-read_next.field-0.0) c.loop-body.invariant goes_on c.in_err-read_next.ensures)
 
 pub loop-body-preserved : goal.loop-body-preserved
 loop-body-preserved c =

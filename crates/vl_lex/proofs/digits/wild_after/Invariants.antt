@@ -1,7 +1,7 @@
 use Rattle.std.proofs.Common.{◌≡◌, ◌<◌, ◌%◌, ◌^◌, ◌∷◌, drop, map}
 use Rattle.vl_lex.specs.Digits.{digits_in, positional, z_bits}
 use Rattle.vl_lex.proofs.DigitLaws.{read_on}
-use Rattle.vl_lex.proofs.digits.wild_behind.Given as goal
+use Rattle.vl_lex.proofs.digits.wild_after.Given as goal
 
 abbrev pub invariant-loop-byte : goal.invariant-loop-byte
 invariant-loop-byte l = record {

@@ -2,7 +2,7 @@ use Rattle.std.proofs.Common.{rules, arith, ap, ◌%◌, ◌^◌, sym, ◌∙◌
 use Rattle.std.proofs.Math.Nat.{mod-lt, mod-eq_of_lt}
 use Rattle.vl_lex.specs.Digits.{z_bits}
 use Rattle.vl_lex.proofs.DigitLaws.{read_is, wild_next, wild_end}
-use Rattle.vl_lex.proofs.digits.wild_behind.Goals as goal
+use Rattle.vl_lex.proofs.digits.wild_after.Goals as goal
 
 pub loop-byte-init : goal.loop-byte-init
 loop-byte-init c = record {
