@@ -5,7 +5,9 @@ use Rattle.std.proofs.Math.ListN.{drop_of_length-le}
 use Rattle.std.proofs.Math.Seq.{drop-append_seam}
 use Rattle.vl_tree.specs.Token.{Kind, Token, token, Tokens}
 use Rattle.vl_pre.specs.Bytes.{Placed, Text, bytes}
-use Rattle.vl_lex.specs.Faults.{FaultKind, Fault, too_many_tokens}
+use Rattle.vl_tree.specs.declared.fault.FaultKind.{FaultKind}
+use Rattle.vl_tree.specs.declared.fault.FaultKind.TheVariants.{TooManyTokens}
+use Rattle.vl_lex.specs.Faults.{Fault, fault}
 use Rattle.vl_lex.specs.Tokens.{Piece, gap, spelt, piece_at, Lexed, ahead, stuck, lexed, lexed_from, most_tokens, answer, at_most, tokens_of}
 use Rattle.vl_lex.specs.Spelled.{size_of, Leads, tokens_in, AreTokens, FailsAt, PassesAt, HaveOneList}
 use Rattle.vl_lex.proofs.PieceLaws.{piece_some}
@@ -85,7 +87,7 @@ have_one_list text ts us a b = ap (λ x. x.tokens) (sym (all_lexed text ts a) �
 -- pieces lead to the end, or to a place where none stands
 abbrev Ends : Option Fault → Text → Type 0
 Ends None there = there ≡ []
-Ends (Some f) there = (c : Placed) × (rest : Text) × (there ≡ c ∷ rest) × (piece_at (bytes there) ≡ Err f.kind) × (c.line ≡ f.line)
+Ends (Some f) there = (c : Placed) × (rest : Text) × (there ≡ c ∷ rest) × (k : FaultKind) × (piece_at (bytes there) ≡ Err k) × (f ≡ fault k c.line)
 
 pub record Cut (text : Text) (l : Lexed) : Type 0 where
   pub pieces : List Piece
@@ -112,7 +114,7 @@ cut_by n c ts (Ok p) h w more =
     subst (Cut (c ∷ ts)) (sym (step n c ts p h)) (cut_step c ts p (lexed_from n (drop (size_of p) (c ∷ ts))) h (more (drop (size_of p) (c ∷ ts)) (shorter n c ts p h w)))
 cut_by n c ts (Err k) h w more =
     let e : lexed_from (suc n) (c ∷ ts) ≡ stuck k c.line = rw h refl in
-    subst (Cut (c ∷ ts)) (sym e) (record { pieces = []; there = c ∷ ts; leads = refl; tokens = refl; ends = (c, ts, refl, h, refl) })
+    subst (Cut (c ∷ ts)) (sym e) (record { pieces = []; there = c ∷ ts; leads = refl; tokens = refl; ends = (c, ts, refl, k, h, refl) })
 
 cut : (n : ℕ) (ts : Text) → length ts ≤ n → Cut ts (lexed_from n ts)
 cut n [] w = subst (Cut []) (sym (over n)) cut_end
@@ -146,7 +148,7 @@ err_same x y e = cc
 -- what the answer's fault is: that after all tokens, of which there are few, or the first token too many
 abbrev FromAnswer : Tokens → Option Fault → Fault → Type 0
 FromAnswer [] o f = o ≡ Some f
-FromAnswer (t ∷ more) o f = (line : ℕ) × (k : Kind) × (t ≡ token line k) × (record { kind = too_many_tokens; line = line } ≡ f)
+FromAnswer (t ∷ more) o f = (line : ℕ) × (k : Kind) × (t ≡ token line k) × (fault TooManyTokens line ≡ f)
 
 err_answer : (drops : Tokens) (o : Option Fault) (found : Tokens) (f : Fault) → answer drops o found ≡ Err f → FromAnswer drops o f
 err_answer (token line k ∷ more) o found f e = (line, k, refl, err_same _ f e)
@@ -227,8 +229,9 @@ by_drops text f [] d a =
       here = e.0;
       after = e.1;
       leads = subst (λ x. Leads k.pieces text x) e.2 k.leads;
-      fails = subst (λ (x : Text). piece_at (bytes x) ≡ Err f.kind) e.2 e.3;
-      line = e.4;
+      kind = e.3;
+      fails = subst (λ (x : Text). piece_at (bytes x) ≡ Err e.3) e.2 e.4;
+      is = e.5;
       few = subst (λ (x : Tokens). length x ≤ most_tokens) k.tokens w;
     })
 by_drops text f (t ∷ more) d a =
@@ -243,9 +246,8 @@ by_drops text f (t ∷ more) d a =
       size = x.size;
       leads = x.leads;
       stands = x.stands;
-      line = l ∙ ap (λ g. g.line) a.3;
       full = x.before;
-      is = sym (ap (λ g. g.kind) a.3);
+      is = sym a.3 ∙ ap (fault TooManyTokens) (sym l);
     })
 
 pub faults : (text : Text) (f : Fault) → tokens_of text ≡ Err f → FailsAt text f ⊎ PassesAt text f
@@ -267,9 +269,9 @@ pub fails : (text : Text) (f : Fault) → FailsAt text f → tokens_of text ≡ 
 fails text f x =
     let found : Tokens = tokens_in x.pieces text in
     let r = reached text (x.here ∷ x.after) x.pieces x.leads in
-    let e : lexed text ≡ record { tokens = found; fault = Some (record { kind = f.kind; line = x.here.line }) } =
-    r.2 ∙ ap (ahead found) (stuck_here r.0 x.here x.after f.kind r.1 x.fails) ∙ ap (λ t. record { tokens = t; fault = Some (record { kind = f.kind; line = x.here.line }) }) (append-nil found) in
-    ap (at_most most_tokens) e ∙ ap (λ d. answer d (Some (record { kind = f.kind; line = x.here.line })) found) (few_dropped found x.few) ∙ ap (λ l. Err (record { kind = f.kind; line = l })) x.line
+    let e : lexed text ≡ record { tokens = found; fault = Some (fault x.kind x.here.line) } =
+    r.2 ∙ ap (ahead found) (stuck_here r.0 x.here x.after x.kind r.1 x.fails) ∙ ap (λ t. record { tokens = t; fault = Some (fault x.kind x.here.line) }) (append-nil found) in
+    ap (at_most most_tokens) e ∙ ap (λ d. answer d (Some (fault x.kind x.here.line)) found) (few_dropped found x.few) ∙ ap (λ g. Err g) (sym x.is)
 
 token_here : (m : ℕ) (c : Placed) (rest : Text) (k : Kind) (n : ℕ) → length (c ∷ rest) ≤ m → piece_at (bytes (c ∷ rest)) ≡ Ok (spelt k n)
     → (l : Lexed) × (lexed_from m (c ∷ rest) ≡ ahead (token c.line k ∷ []) l)
@@ -284,5 +286,4 @@ passes text f x =
     let h = token_here r.0 x.here x.after x.kind x.size r.1 x.stands in
     let e : lexed text ≡ ahead found (ahead (t ∷ []) h.0) = r.2 ∙ ap (ahead found) h.1 in
     let d : drop most_tokens (found ++ (t ∷ h.0.tokens)) ≡ t ∷ h.0.tokens = ap (λ n. drop n (found ++ (t ∷ h.0.tokens))) (sym x.full) ∙ drop-append_seam found (t ∷ h.0.tokens) in
-    let g : too_many_tokens ≡ f.kind = sym x.is in
-    ap (at_most most_tokens) e ∙ ap (λ y. answer y h.0.fault (found ++ (t ∷ h.0.tokens))) d ∙ ap (λ l. Err (record { kind = too_many_tokens; line = l })) x.line ∙ ap (λ k. Err (record { kind = k; line = f.line })) g
+    ap (at_most most_tokens) e ∙ ap (λ y. answer y h.0.fault (found ++ (t ∷ h.0.tokens))) d ∙ ap (λ g. Err g) (sym x.is)

@@ -3,7 +3,9 @@ use Rattle.std.specs.Prelude.{ℕ, ◌+◌, ◌%◌, ◌^◌, ◌==◌, nat_le, 
 use Rattle.std.specs.List.{prefix_len}
 use Rattle.vl_tree.specs.Token.{Literal}
 use Rattle.vl_pre.specs.Bytes.{is_digit, begins_name}
-use Rattle.vl_lex.specs.Faults.{FaultKind, bad_token, bad_number, too_wide, unless}
+use Rattle.vl_tree.specs.declared.fault.FaultKind.{FaultKind}
+use Rattle.vl_tree.specs.declared.fault.FaultKind.TheVariants.{BadToken, BadNumber, TooWide}
+use Rattle.vl_lex.specs.Faults.{unless}
 use Rattle.vl_lex.specs.declared.digits.Base.{Base}
 use Rattle.vl_lex.specs.Digits.{base_of, is_x, is_z, is_digit_of, value_of, radix, wild_of}
 
@@ -68,7 +70,7 @@ plain_literal v = record { width = 32; sized = false; signed = true; value = v; 
 -- a plain decimal, and what stands after it
 abbrev pub plain_number : List ℕ → List ℕ → Counted
 plain_number digits rest = let v = value_of 10 digits in
-    unless (goes_on rest || nat_le (2 ^ 32) v) bad_number (Ok (plain_literal v, length digits))
+    unless (goes_on rest || nat_le (2 ^ 32) v) BadNumber (Ok (plain_literal v, length digits))
 
 -- the literal of this width and these digits; what of its value doesn't fit the width is cut on the left
 abbrev pub based_literal : ℕ → Bool → Bool → Base → List ℕ → Literal
@@ -78,14 +80,14 @@ based_literal width sized signed base digits =
 
 -- the same, unless it is too wide
 abbrev pub literal_within : Bool → ℕ → Bool → Bool → Base → List ℕ → Result Literal FaultKind
-literal_within true width sized signed base digits = Err too_wide
+literal_within true width sized signed base digits = Err TooWide
 literal_within false width sized signed base digits = Ok (based_literal width sized signed base digits)
 
 -- the literal of this width: of 128 bits at most, and with digits below 2^128
 abbrev pub sized_literal : ℕ → Bool → Base → List ℕ → Result Literal FaultKind
 sized_literal width signed base digits =
     let wide = nat_le 129 width || nat_le (2 ^ 128) (value_of (radix base) digits) in
-    unless (width == 0) bad_number (literal_within wide width true signed base digits)
+    unless (width == 0) BadNumber (literal_within wide width true signed base digits)
 
 -- the literal without a size: of 32 bits, into which its digits fit
 abbrev pub unsized_literal : Bool → Base → List ℕ → Result Literal FaultKind
@@ -106,12 +108,12 @@ abbrev pub based_number : List ℕ → Format → List ℕ → Counted
 based_number size format bs =
     let n = digits_length format.base bs in
     let literal = literal_of_size size format.signed format.base (take n bs) in
-    unless (n == 0 || goes_on (drop n bs)) bad_number (counted (length size + format.used + n) literal)
+    unless (n == 0 || goes_on (drop n bs)) BadNumber (counted (length size + format.used + n) literal)
 
 -- a number by what stands after its first digits; an apostrophe that leads to no base begins no number
 abbrev pub number_by : List ℕ → Option Format → List ℕ → Counted
 number_by size (Some format) rest = based_number size format (drop format.used rest)
-number_by [] None rest = Err bad_token
+number_by [] None rest = Err BadToken
 number_by (b ∷ bs) None rest = plain_number (b ∷ bs) rest
 
 -- the number at the head of bytes that begin with a digit or an apostrophe, and how many bytes it has

@@ -6,15 +6,18 @@ use Rattle.vl_tree.specs.declared.token.Token as code
 use Rattle.vl_tree.specs.declared.token.TokenKind.{TokenKind}
 use Rattle.vl_tree.specs.Token.{mark, Tokens, Literal, literal_of, coded_kind}
 use Rattle.std.specs.Borrow.{Bor}
-use Rattle.vl_lex.specs.Faults.{FaultKind, bad_token, bad_number, too_wide, open_string, too_many_tokens, Fault}
+use Rattle.vl_tree.specs.declared.fault.FaultKind.{FaultKind}
+use Rattle.vl_tree.specs.declared.fault.FaultKind.TheVariants.{BadToken, BadNumber, TooWide, OpenString, TooManyTokens}
+use Rattle.vl_lex.specs.Faults.{Fault}
 use Rattle.vl_pre.specs.Bytes.{begins}
 use Rattle.vl_pre.specs.Pieces.{string_length}
 use Rattle.vl_lex.specs.Numbers as n
 use Rattle.vl_lex.specs.Tokens as t
 use Rattle.vl_lex.specs.declared.attributes.Within.{Within}
 use Rattle.vl_lex.specs.declared.attributes.Within.TheVariants as within
-use Rattle.vl_lex.specs.declared.faults.LexFault.{LexFault}
-use Rattle.vl_lex.specs.declared.faults.LexFault.TheVariants as f
+use Rattle.vl_tree.specs.declared.fault.StaticFault.{StaticFault}
+use Rattle.vl_tree.specs.declared.fault.StaticFault.TheVariants as f
+use Rattle.vl_tree.specs.Fault.{on_line}
 use Rattle.vl_lex.specs.declared.faults.Wrong.{Wrong}
 use Rattle.vl_lex.specs.declared.faults.Wrong.TheVariants as wrong
 use Rattle.vl_lex.specs.declared.numbers.Format.{Format}
@@ -27,51 +30,20 @@ use Rattle.vl_lex.specs.declared.pieces.Piece as code_piece
 -- ---- faults
 
 -- the fault of a text that a reader's fault on this line is
-abbrev pub fault_on : Wrong → ℕ → LexFault
-fault_on wrong.BadToken line = f.BadToken line
-fault_on wrong.BadNumber line = f.BadNumber line
-fault_on wrong.TooWide line = f.TooWide line
-fault_on wrong.OpenString line = f.OpenString line
+abbrev pub fault_on : Wrong → ℕ → StaticFault
+fault_on (wrong.Bad kind) line = on_line 2 line kind
 fault_on wrong.Memory line = f.Memory
 
--- the definition has this fault too; and no memory is needed
-abbrev pub HasFault : {X : Type 0} → Result X FaultKind → Wrong → Type 0
-HasFault r wrong.BadToken = r ≡ Err bad_token
-HasFault r wrong.BadNumber = r ≡ Err bad_number
-HasFault r wrong.TooWide = r ≡ Err too_wide
-HasFault r wrong.OpenString = r ≡ Err open_string
-HasFault r wrong.Memory = ⊥
-
--- the definition has this fault too, or out of memory
+-- the definition has this fault too; where memory ran out nothing is said
 abbrev pub IsWrong : {X : Type 0} → Result X FaultKind → Wrong → Type 0
-IsWrong r wrong.BadToken = r ≡ Err bad_token
-IsWrong r wrong.BadNumber = r ≡ Err bad_number
-IsWrong r wrong.TooWide = r ≡ Err too_wide
-IsWrong r wrong.OpenString = r ≡ Err open_string
+IsWrong r (wrong.Bad kind) = r ≡ Err kind
 IsWrong r wrong.Memory = Unit {0}
-
--- a fault of this kind on this line
-abbrev pub fault : FaultKind → ℕ → Fault
-fault kind line = record { kind = kind; line = line }
-
--- the text has this fault first, or out of memory
-abbrev pub IsFirst : Result Tokens Fault → LexFault → Type 0
-IsFirst r (f.BadToken line) = r ≡ Err (fault bad_token line)
-IsFirst r (f.BadNumber line) = r ≡ Err (fault bad_number line)
-IsFirst r (f.TooWide line) = r ≡ Err (fault too_wide line)
-IsFirst r (f.OpenString line) = r ≡ Err (fault open_string line)
-IsFirst r (f.TooManyTokens line) = r ≡ Err (fault too_many_tokens line)
-IsFirst r f.Memory = Unit {0}
 
 -- ---- words
 
--- a table of the code as that of the definition
-abbrev pub pairs : {T : Type 0} → List (Bor (List ℕ) × T) → List (List ℕ × T)
-pairs = map (λ e. (e.0.now, e.1))
-
 -- the first of these marks with which the bytes begin, none longer than the bytes
 abbrev pub FindsMark : List (List ℕ × Mark) → List ℕ → Option (Mark × ℕ) → Type 0
-FindsMark ms bs None = t.mark_token ms bs ≡ Err bad_token
+FindsMark ms bs None = t.mark_token ms bs ≡ Err BadToken
 FindsMark ms bs (Some e) = (t.mark_token ms bs ≡ Ok (mark e.0, e.1)) × (e.1 ≤ length bs)
 
 -- ---- numbers
@@ -82,10 +54,10 @@ IsValue v None = 2 ^ 128 ≤ v
 IsValue v (Some x) = x ≡ v
 
 -- the number where it is a width, 1 to 128, and else whether it is too small or too great
-abbrev pub IsWidth : ℕ → Result ℕ Wrong → Type 0
+abbrev pub IsWidth : ℕ → Result ℕ FaultKind → Type 0
 IsWidth v (Ok w) = (w ≡ v) × (1 ≤ w) × (w ≤ 128)
-IsWidth v (Err wrong.BadNumber) = v ≡ 0
-IsWidth v (Err wrong.TooWide) = 129 ≤ v
+IsWidth v (Err BadNumber) = v ≡ 0
+IsWidth v (Err TooWide) = 129 ≤ v
 IsWidth v (Err _) = ⊥
 
 -- a format of the code as that of the definition
@@ -98,14 +70,14 @@ IsFormat r (Some x) = r ≡ Some (format_of x)
 IsFormat r None = r ≡ None
 
 -- the literal, or the definition's fault
-abbrev pub IsLiteral : Result Literal FaultKind → Result literal.Literal Wrong → Type 0
+abbrev pub IsLiteral : Result Literal FaultKind → Result literal.Literal FaultKind → Type 0
 IsLiteral r (Ok l) = r ≡ Ok (literal_of l)
-IsLiteral r (Err w) = HasFault r w
+IsLiteral r (Err kind) = r ≡ Err kind
 
 -- the number with how many bytes it has, or the definition's fault
-abbrev pub Tells : n.Counted → Result Number Wrong → Type 0
+abbrev pub Tells : n.Counted → Result Number FaultKind → Type 0
 Tells r (Ok x) = r ≡ Ok (literal_of x.literal, x.used)
-Tells r (Err w) = HasFault r w
+Tells r (Err kind) = r ≡ Err kind
 
 -- ---- strings
 
@@ -115,10 +87,10 @@ IsCharacter r (Some p) = r ≡ Some (p.byte, p.used)
 IsCharacter r None = r ≡ None
 
 -- the character of a string, or its end, or the definition's fault
-abbrev pub IsCharacterOrEnd : Result (Option (ℕ × ℕ)) FaultKind → Result (Option Character) Wrong → Type 0
+abbrev pub IsCharacterOrEnd : Result (Option (ℕ × ℕ)) FaultKind → Result (Option Character) FaultKind → Type 0
 IsCharacterOrEnd r (Ok (Some p)) = r ≡ Ok (Some (p.byte, p.used))
 IsCharacterOrEnd r (Ok None) = r ≡ Ok None
-IsCharacterOrEnd r (Err w) = HasFault r w
+IsCharacterOrEnd r (Err kind) = r ≡ Err kind
 
 -- the bytes of a string with how many bytes spell them, or its fault
 abbrev pub Quotes : Result (List ℕ × ℕ) FaultKind → Result Quoted Wrong → Type 0
@@ -148,9 +120,9 @@ ends_attribute within.Escaping bs = false
 -- ---- tokens
 
 -- the kind of token with how many bytes spell it, or its fault
-abbrev pub SpellsAlone : t.Spelled → Result Found Wrong → Type 0
+abbrev pub SpellsAlone : t.Spelled → Result Found FaultKind → Type 0
 SpellsAlone r (Ok x) = r ≡ Ok (coded_kind x.kind, x.used)
-SpellsAlone r (Err w) = HasFault r w
+SpellsAlone r (Err kind) = r ≡ Err kind
 
 -- the same, where the names and strings of a token need memory
 abbrev pub Spells : t.Spelled → Result Found Wrong → Type 0
@@ -163,47 +135,41 @@ piece_of None n = t.gap n
 piece_of (Some k) n = t.spelt (coded_kind k) n
 
 -- the piece, or its fault
-abbrev pub StandsAlone : Result t.Piece FaultKind → Result code_piece.Piece Wrong → Type 0
+abbrev pub StandsAlone : Result t.Piece FaultKind → Result code_piece.Piece FaultKind → Type 0
 StandsAlone r (Ok p) = r ≡ Ok (piece_of p.token p.used)
-StandsAlone r (Err w) = HasFault r w
+StandsAlone r (Err kind) = r ≡ Err kind
 
 -- the same, where the names and strings of a token need memory
 abbrev pub Stands : Result t.Piece FaultKind → Result code_piece.Piece Wrong → Type 0
 Stands r (Ok p) = r ≡ Ok (piece_of p.token p.used)
 Stands r (Err w) = IsWrong r w
 
--- why no token of this line was appended: there were as many as there may be, or out of memory
-abbrev pub PushFails : List code.Token → ℕ → LexFault → Type 0
-PushFails old line (f.TooManyTokens l) = (t.most_tokens ≤ length old) × (l ≡ line)
+-- why no token of this line was appended: there were as many as there may be, or memory ran out
+abbrev pub PushFails : List code.Token → ℕ → StaticFault → Type 0
+PushFails old line (f.At phase place kind) = (t.most_tokens ≤ length old) × (f.At phase place kind ≡ on_line 2 line TooManyTokens)
 PushFails old line f.Memory = Unit {0}
-PushFails old line _ = ⊥
 
 -- the token was appended, or it wasn't, and why
-abbrev pub Pushes : List code.Token → code.Token → List code.Token → Result (Unit {0}) LexFault → Type 0
+abbrev pub Pushes : List code.Token → code.Token → List code.Token → Result (Unit {0}) StaticFault → Type 0
 Pushes old a new (Ok _) = (new ≡ old ++ a ∷ []) × (length old < t.most_tokens)
 Pushes old a new (Err e) = PushFails old a.line e
 
 -- the token of a piece on this line was appended, if it has one, or it wasn't, and why
-abbrev pub Takes : List code.Token → ℕ → Option TokenKind → ℕ → List code.Token → Result ℕ LexFault → Type 0
+abbrev pub Takes : List code.Token → ℕ → Option TokenKind → ℕ → List code.Token → Result ℕ StaticFault → Type 0
 Takes old line None used new (Ok n) = (n ≡ used) × (new ≡ old)
 Takes old line None used new (Err e) = ⊥
 Takes old line (Some k) used new (Ok n) = (n ≡ used) × (new ≡ old ++ record { line = line; kind = k } ∷ []) × (length old < t.most_tokens)
 Takes old line (Some k) used new (Err e) = PushFails old line e
 
--- none stands there, and why, or out of memory
-abbrev pub IsFault : Result t.Piece FaultKind → ℕ → LexFault → Type 0
-IsFault r line (f.BadToken l) = (r ≡ Err bad_token) × (l ≡ line)
-IsFault r line (f.BadNumber l) = (r ≡ Err bad_number) × (l ≡ line)
-IsFault r line (f.TooWide l) = (r ≡ Err too_wide) × (l ≡ line)
-IsFault r line (f.OpenString l) = (r ≡ Err open_string) × (l ≡ line)
-IsFault r line (f.TooManyTokens l) = ⊥
-IsFault r line f.Memory = Unit {0}
+-- none stands there, and why, or memory ran out
+abbrev pub IsFault : Result t.Piece FaultKind → ℕ → StaticFault → Type 0
+IsFault r line e = (w : Wrong) × (e ≡ fault_on w line) × IsWrong r w
 
 -- the same of an answer
-abbrev pub NoneStands : Result t.Piece FaultKind → ℕ → Result ℕ LexFault → Type 0
+abbrev pub NoneStands : Result t.Piece FaultKind → ℕ → Result ℕ StaticFault → Type 0
 NoneStands r line (Ok n) = ⊥
 NoneStands r line (Err e) = IsFault r line e
 
 -- the piece at the head was taken, or it wasn't, and why
-abbrev pub Steps : List code.Token → ℕ → Result t.Piece FaultKind → List code.Token → Result ℕ LexFault → Type 0
+abbrev pub Steps : List code.Token → ℕ → Result t.Piece FaultKind → List code.Token → Result ℕ StaticFault → Type 0
 Steps old line r new x = ((k : Option TokenKind) × (n : ℕ) × (r ≡ Ok (piece_of k n)) × Takes old line k n new x) ⊎ NoneStands r line x

@@ -2,7 +2,9 @@
 use Rattle.std.specs.Prelude.{ℕ, ◌≡◌, ◌<◌, ◌≤◌, List, [], ◌∷◌, ◌⊎◌, drop, take, length, Ok, Err}
 use Rattle.vl_tree.specs.Token.{Kind, token, Tokens}
 use Rattle.vl_pre.specs.Bytes.{Placed, Text, bytes}
-use Rattle.vl_lex.specs.Faults.{Fault, too_many_tokens}
+use Rattle.vl_tree.specs.declared.fault.FaultKind.{FaultKind}
+use Rattle.vl_tree.specs.declared.fault.FaultKind.TheVariants.{TooManyTokens}
+use Rattle.vl_lex.specs.Faults.{Fault, fault}
 use Rattle.vl_lex.specs.Tokens.{Piece, gap, spelt, piece_at, token_at, tokens_of, most_tokens}
 
 -- how many bytes a piece has
@@ -32,8 +34,9 @@ pub record FailsAt (text : Text) (f : Fault) : Type 0 where
   pub here : Placed
   pub after : Text
   pub leads : Leads pieces text (here ∷ after)
-  pub fails : piece_at (bytes (here ∷ after)) ≡ Err f.kind
-  pub line : here.line ≡ f.line
+  pub kind : FaultKind
+  pub fails : piece_at (bytes (here ∷ after)) ≡ Err kind
+  pub is : f ≡ fault kind here.line
   pub few : length (tokens_in pieces text) ≤ most_tokens
 
 -- Pieces with the most tokens lead to this place, where one more token stands.
@@ -45,9 +48,8 @@ pub record PassesAt (text : Text) (f : Fault) : Type 0 where
   pub size : ℕ
   pub leads : Leads pieces text (here ∷ after)
   pub stands : piece_at (bytes (here ∷ after)) ≡ Ok (spelt kind size)
-  pub line : here.line ≡ f.line
   pub full : length (tokens_in pieces text) ≡ most_tokens
-  pub is : f.kind ≡ too_many_tokens
+  pub is : f ≡ fault TooManyTokens here.line
 
 -- A law: these are the tokens, and the first fault, that are computed, and no others.
 pub record ComputesTokens : Type 0 where

@@ -4,7 +4,7 @@ ghost use Rattle.std.specs.Prelude.{◌≡◌, ◌+◌, ◌≤◌, ◌<◌, ◌�
 ghost use Rattle.vl_lex.specs.Attributes as a;
 ghost use Rattle.vl_lex.specs.Reading as r;
 
-use crate::bytes::{after, is_white, next};
+use vl_pre::bytes::{after, is_white, next};
 
 /// Where a byte of an attribute stands: outside strings, in a string, or after a backslash in one.
 #[derive(Clone, Copy, Debug, PartialEq, Eq)]

@@ -4,8 +4,8 @@ ghost use Rattle.std.specs.Prelude.{◌≡◌, ◌+◌, ◌-◌, ◌*◌, ◌%�
 ghost use Rattle.vl_lex.specs.Digits as d;
 ghost use Rattle.vl_lex.specs.Reading.{IsValue};
 
-use crate::bytes::{is_digit, next};
 use dt_core::limits::MAX_WIDTH;
+use vl_pre::bytes::{is_digit, next};
 
 /// The base of a number.
 #[derive(Clone, Copy, Debug, PartialEq, Eq)]

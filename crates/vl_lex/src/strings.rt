@@ -5,11 +5,12 @@ ghost use Rattle.std.specs.List.{prefix_len};
 ghost use Rattle.vl_lex.specs.Strings as s;
 ghost use Rattle.vl_lex.specs.Reading.{IsCharacter, IsCharacterOrEnd, Quotes};
 
-use crate::bytes::{after, next};
 use crate::digits::digits_value;
 use crate::faults::Wrong;
 use dt_core::text::Text;
 use std::alloc::Global;
+use vl_pre::bytes::{after, ends_line, next};
+use vl_tree::fault::FaultKind;
 
 /// A byte of a string and how many bytes spell it.
 #[derive(Clone, Copy)]
@@ -80,24 +81,28 @@ fn escape(bytes: &[u8]) -> Option<Character>
     octal_escape(bytes)
 }
 
-// The text is over, or a line's end comes: LF, or CR and LF.
-fn ends_line(bytes: &[u8]) -> bool
-    ensures { result ≡ s.ends_line bytes.now }
+// Why no escape stands after a backslash.
+fn no_escape(bytes: &[u8]) -> FaultKind
+    ensures { result ≡ s.no_escape bytes.now }
 {
-    bytes.is_empty() || bytes.starts_with(b"\n") || bytes.starts_with(b"\r\n")
+    if bytes.is_empty() {
+        FaultKind::OpenString
+    } else {
+        FaultKind::BadToken
+    }
 }
 
 // The character of a string at the head: a byte, or none at the closing quote.
-fn character_at(bytes: &[u8]) -> Result<Option<Character>, Wrong>
+fn character_at(bytes: &[u8]) -> Result<Option<Character>, FaultKind>
     ensures character { IsCharacterOrEnd (s.character_at bytes.now) result }
     ensures used { IfOk result (λ o. IfSome o (λ p. (0 < p.used) × (p.used ≤ length bytes.now))) }
     ensures some { IfOk result (λ o. 0 < length bytes.now) }
 {
     if ends_line(bytes) {
-        return Err(Wrong::OpenString);
+        return Err(FaultKind::OpenString);
     }
     let Some((first, after)) = next(bytes) else {
-        return Err(Wrong::OpenString);
+        return Err(FaultKind::OpenString);
     };
     if first == b'"' {
         return Ok(None);
@@ -113,7 +118,7 @@ fn character_at(bytes: &[u8]) -> Result<Option<Character>, Wrong>
             byte: character.byte,
             used: character.used + 1,
         })),
-        None => Err(Wrong::BadToken),
+        None => Err(no_escape(after)),
     }
 }
 

@@ -11,4 +11,5 @@ pub mod PieceLaws
 pub mod PlainLaws
 pub mod ReadingLaws
 pub mod StepLaws
+pub mod TableLaws
 pub mod WriteLaws

@@ -13,23 +13,24 @@ use Rattle.vl_tree.specs.declared.fault.FaultKind.TheVariants.{BadDirective}
 use Rattle.vl_pre.specs.Pieces.{line_comment, block_comment, continued, inside, Part, Fault, fault, gives, stops, go_on, and_then, from_stop, after_block, blank, in_line, kept, kept_length, rest_of_line}
 use Rattle.vl_pre.specs.Directives.{Ticked, no_name, a_directive, a_macro, ticked, at_gap, after_one, after_gap, macro_name, name_of}
 use Rattle.vl_pre.specs.Views.{head_of, in_line_of, ticked_of}
-use Rattle.vl_pre.specs.Reading.{HasFault, PartHasFault, Keeps, ended, next_in_line, piece_at, piece_in_line, head_line}
+use Rattle.vl_pre.specs.Reading.{HasFault, PartHasFault, Keeps, next_in_line, piece_at, piece_in_line, head_line}
+use Rattle.vl_pre.specs.Bytes.{ends_line}
 
 pub length-bytes : (ts : Text) → length (bytes ts) ≡ length ts
 length-bytes ts = length-map ts (λ (c : Placed). c.byte)
 
-pub some_left : (ts : Text) → ended (bytes ts) ≡ false → 0 < length ts
+pub some_left : (ts : Text) → ends_line (bytes ts) ≡ false → 0 < length ts
 some_left [] e = absurd cc
 some_left (c ∷ ts) e = omega arith
 
 -- ---- the rest of a line
 
-pub rest_more : (n : ℕ) (k : Bool) (ts : Text) → 0 < n → ended (bytes ts) ≡ false → rest_of_line n k ts ≡ go_on (next_in_line k ts) (rest_of_line (n - 1) k)
+pub rest_more : (n : ℕ) (k : Bool) (ts : Text) → 0 < n → ends_line (bytes ts) ≡ false → rest_of_line n k ts ≡ go_on (next_in_line k ts) (rest_of_line (n - 1) k)
 rest_more zero k ts some e = absurd (omega (arith, some))
 rest_more (suc m) k [] some e = absurd cc
 rest_more (suc m) k (c ∷ ts) some e = let less : suc m - 1 ≡ m = omega arith in rw (e, less) refl
 
-pub rest_ended : (n : ℕ) (k : Bool) (ts : Text) → ended (bytes ts) ≡ true → rest_of_line n k ts ≡ gives [] ts
+pub rest_ended : (n : ℕ) (k : Bool) (ts : Text) → ends_line (bytes ts) ≡ true → rest_of_line n k ts ≡ gives [] ts
 rest_ended zero k [] e = refl
 rest_ended zero k (c ∷ ts) e = refl
 rest_ended (suc m) k [] e = refl

@@ -7,7 +7,8 @@ use Rattle.vl_tree.specs.declared.fault.FaultKind.TheVariants.{BadByte}
 use Rattle.vl_pre.specs.Pieces.{Head, line_comment, block_comment, a_string, escaped_name, a_backtick, any_other, InLine, continued, inside, Part, Fault, fault, before, go_on, and_then, stops_line, from_stop, after_close, closed, after_block, string_length, escaped_length, as_it_stands, kept, blank_before, piece, first, in_line, line_piece, rest_of_line}
 use Rattle.vl_pre.specs.Directives.{Directive, define, undef, ifdef, ifndef, elsif, otherwise, endif, passed_over, include, Ticked, no_name, a_directive, a_macro, Condition, Context, After, went, is_read, at_gap, after_one, after_gap, ticked, macro_name, name_of, whole_by, line_of, define_by, branch_by, branch_step, may_turn, elsif_by, close_step, directive_step, is_conditional}
 use Rattle.vl_pre.specs.CleanText.{reading_from, body_tick, body_piece, body_reading, nothing, tick_step, read_step, skipped_directive, skipped_tick, skipped_step, step}
-use Rattle.vl_pre.specs.Reading.{HasFault, PartHasFault, Kept, Wrote, ended, next_in_line, step_at, body_piece_at}
+use Rattle.vl_pre.specs.Reading.{HasFault, PartHasFault, Kept, Wrote, next_in_line, step_at, body_piece_at}
+use Rattle.vl_pre.specs.Bytes.{ends_line}
 use Rattle.vl_pre.proofs.CursorLaws.{at_close, close_here, close_next}
 use Rattle.vl_pre.proofs.LineLaws.{gap_ended, gap_more, gap_fault, some_left, rest_more}
 use Rattle.vl_pre.proofs.BlankLaws.{sound_parts}
@@ -305,14 +306,14 @@ in_line_shorter k (c ∷ ts) some h = let i = in_line_length (in_line k (bytes (
 abbrev pub ReadsLine : Part → List ℕ → Bool → Text → Type 0
 ReadsLine p body k ts = (n : ℕ) × (length ts ≤ n) × Collects [] p body (rest_of_line n k ts)
 
-pub line_reads_more : (p : Part) (body new : List ℕ) (k : Bool) (ts rest : Text) → ReadsLine p body k ts → ended (bytes ts) ≡ false → Kept body new rest (next_in_line k ts) → ReadsLine p new k rest
+pub line_reads_more : (p : Part) (body new : List ℕ) (k : Bool) (ts rest : Text) → ReadsLine p body k ts → ends_line (bytes ts) ≡ false → Kept body new rest (next_in_line k ts) → ReadsLine p new k rest
 line_reads_more p body new k ts rest r on w =
     let n = r.0 in
     let some = some_left ts on in
     let fits : length rest ≤ n - 1 = let i = in_line_shorter k ts some w.sound in let j = ap length w.left in let m = r.1 in omega (arith, i, j, m) in
     (n - 1, fits, collects_more (next_in_line k ts) (rest_of_line (n - 1) k) r.2 (rest_more n k ts (let m = r.1 in omega (arith, m, some)) on) w)
 
-pub line_reads_fault : (p : Part) (body : List ℕ) (k : Bool) (ts : Text) (o : Option Fault) → ReadsLine p body k ts → ended (bytes ts) ≡ false → PartHasFault (next_in_line k ts) o → PartHasFault p o
+pub line_reads_fault : (p : Part) (body : List ℕ) (k : Bool) (ts : Text) (o : Option Fault) → ReadsLine p body k ts → ends_line (bytes ts) ≡ false → PartHasFault (next_in_line k ts) o → PartHasFault p o
 line_reads_fault p body k ts o r on h =
     let n = r.0 in
     let some = some_left ts on in

@@ -1,5 +1,5 @@
 -- Bytes with their lines, what ends a line, and classes of bytes (IEEE 1364-2005, 3.2 and 3.7).
-use Rattle.std.specs.Prelude.{ℕ, ◌+◌, ◌==◌, ◌≤◌, ◌≡◌, nat_le, nat_eq, Bool, ◌&&◌, ◌||◌, if◌then◌else◌, List, [], ◌∷◌, map, take, length}
+use Rattle.std.specs.Prelude.{ℕ, ◌+◌, ◌==◌, ◌≤◌, ◌≡◌, nat_le, nat_eq, Bool, true, ◌&&◌, ◌||◌, if◌then◌else◌, List, [], ◌∷◌, map, take, length}
 use Rattle.std.specs.List.{prefix_len, starts_with}
 use Rattle.dt_core.specs.declared.limits.TheConstants.{MAX_CLEAN}
 
@@ -52,6 +52,11 @@ begins word bs = starts_with nat_eq bs word
 -- a line's end is LF, or CR and LF
 abbrev pub at_line_end : List ℕ → Bool
 at_line_end bs = begins (10 ∷ []) bs || begins (13 ∷ 10 ∷ []) bs
+
+-- no more stands on the line
+abbrev pub ends_line : List ℕ → Bool
+ends_line [] = true
+ends_line (b ∷ bs) = at_line_end (b ∷ bs)
 
 -- ---- classes of bytes
 

@@ -1,6 +1,7 @@
 -- Directives: definitions, conditions, and what is passed over (IEEE 1364-2005, 19).
 use Rattle.std.specs.Prelude.{ℕ, zero, suc, Bool, true, false, not, ◌&&◌, ◌||◌, if◌then◌else◌, List, [], ◌∷◌, drop, length, reverse, Option, Some, None, Result, Ok, Err, is_some, codes, bytes_eq}
 use Rattle.std.specs.List.{prefix_len}
+use Rattle.vl_pre.specs.Tables.{entry}
 use Rattle.vl_pre.specs.Bytes.{Text, bytes, begins, at_line_end, is_white, name_at}
 use Rattle.vl_tree.specs.declared.fault.FaultKind.TheVariants.{BadDirective, Unbalanced}
 use Rattle.vl_pre.specs.Pieces.{Fault, fault, Part, and_then, after_block, rest_of_line}
@@ -24,11 +25,6 @@ pub data Ticked : Type 0 where
   no_name : Ticked
   a_directive : Directive → Ticked
   a_macro : Ticked
-
--- what a table has under a word
-abbrev pub entry : {X : Type 0} → List (List ℕ × X) → List ℕ → Option X
-entry [] word = None
-entry (e ∷ es) word = if bytes_eq e.0 word then Some e.1 else entry es word
 
 -- the directives by their names; a name that isn't here is a macro's
 abbrev pub directives : List (List ℕ × Directive)

@@ -1,4 +1,5 @@
 pub mod Bytes
+pub mod Tables
 pub mod Cursors
 pub mod Faults
 pub mod Pieces

@@ -1,6 +1,6 @@
 -- Pieces of text: comments, strings, escaped names and single bytes (IEEE 1364-2005, 3.3, 3.6 and 3.7.1).
 use Rattle.std.specs.Prelude.{ℕ, zero, suc, ◌==◌, Bool, true, false, not, ◌&&◌, ◌||◌, if◌then◌else◌, List, [], ◌∷◌, ◌++◌, take, drop, Option, Some, None, Result, Ok, Err, codes}
-use Rattle.vl_tree.specs.declared.fault.FaultKind.TheVariants.{BadDirective, Unbalanced, UnknownMacro, MacroDepth, TooLong, BadByte, OpenComment}
+use Rattle.vl_tree.specs.declared.fault.FaultKind.TheVariants.{BadByte, OpenComment}
 use Rattle.vl_tree.specs.declared.fault.FaultKind.{FaultKind}
 pub use Rattle.vl_pre.specs.Faults.{Fault, fault}
 use Rattle.vl_pre.specs.Bytes.{Placed, Text, at_line, bytes, begins, at_line_end, is_white, is_allowed}

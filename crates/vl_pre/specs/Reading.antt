@@ -7,7 +7,7 @@ use Rattle.vl_tree.specs.declared.fault.StaticFault.{StaticFault}
 pub use Rattle.vl_pre.specs.Faults.{fault_of, HasFault}
 pub use Rattle.vl_pre.specs.Views.{macros_of, context_of}
 use Rattle.vl_pre.specs.declared.context.Context as code
-use Rattle.vl_pre.specs.Bytes.{Text, bytes, name_at, at_line_end, most_clean}
+use Rattle.vl_pre.specs.Bytes.{Text, bytes, name_at, most_clean}
 use Rattle.vl_pre.specs.Pieces.{Head, a_backtick, InLine, Fault, Part, gives, piece, after_close, first, after_block, in_line, line_piece}
 use Rattle.vl_pre.specs.Directives.{Condition, Macros, Context, After, went, ticked}
 use Rattle.vl_pre.specs.CleanText.{Step, step, read_step, skipped_step, body_piece, body_tick, use_of, answer, at_end}
@@ -67,11 +67,6 @@ Passes old new (Ok line) = (after_block old ≡ Ok new) × (line ≡ head_line o
 Passes old new (Err f) = HasFault (after_block old) (fault_of f)
 
 -- ---- lines
-
--- no more stands on the line
-abbrev pub ended : List ℕ → Bool
-ended [] = true
-ended (b ∷ bs) = at_line_end (b ∷ bs)
 
 -- the piece at the head of a line, which isn't empty
 abbrev pub next_in_line : Bool → Text → Part

@@ -10,7 +10,6 @@ use Rattle.vl_pre.specs.declared.names.Directive as word
 use Rattle.vl_pre.specs.declared.names.Directive.TheVariants as n
 use Rattle.vl_pre.specs.declared.names.Ticked as tick
 use Rattle.vl_pre.specs.declared.names.Ticked.TheVariants as t
-use Rattle.vl_pre.specs.declared.names.Entry.{Entry}
 use Rattle.vl_pre.specs.declared.conditions.Branch.{Branch}
 use Rattle.vl_pre.specs.declared.conditions.Branch.TheVariants as b
 use Rattle.vl_pre.specs.declared.conditions.Condition as held
@@ -49,10 +48,6 @@ abbrev pub ticked_of : tick.Ticked → Ticked
 ticked_of t.NoName = no_name
 ticked_of (t.Named d) = a_directive (directive_of d)
 ticked_of t.Macro = a_macro
-
--- the table of directives
-abbrev pub pairs : List Entry → List (List ℕ × Directive)
-pairs = map (λ e. (e.word.now, directive_of e.directive))
 
 -- none of the later branches is read
 abbrev pub is_settled : Branch → Bool

@@ -1,6 +1,6 @@
 //! Bytes: their classes, and what stands at the head of a list of them.
 
-ghost use Rattle.std.specs.Prelude.{◌≡◌, ◌+◌, ◌≤◌, ◌∷◌, [], length, MatchOption};
+ghost use Rattle.std.specs.Prelude.{◌≡◌, ◌+◌, ◌≤◌, ◌∷◌, [], length, drop, MatchOption};
 ghost use Rattle.std.specs.List.{prefix_len};
 ghost use Rattle.vl_pre.specs.Bytes as b;
 
@@ -12,6 +12,14 @@ pub fn next(bytes: &[u8]) -> Option<(u8, &[u8])>
         Some((first, rest)) => Some((*first, rest)),
         None => None,
     }
+}
+
+/// What stands after the first `n` bytes.
+pub fn after(bytes: &[u8], n: usize) -> &[u8]
+    requires { n ≤ length bytes.now }
+    ensures { result.now ≡ drop n bytes.now }
+{
+    bytes.split_at(n).1
 }
 
 /// Space, tab, LF, FF and CR.
@@ -83,4 +91,11 @@ pub fn at_line_end(bytes: &[u8]) -> bool
     ensures { result ≡ b.at_line_end bytes.now }
 {
     bytes.starts_with(b"\n") || bytes.starts_with(b"\r\n")
+}
+
+/// No more stands on the line: the bytes are over, or a line's end comes.
+pub fn ends_line(bytes: &[u8]) -> bool
+    ensures { result ≡ b.ends_line bytes.now }
+{
+    bytes.is_empty() || at_line_end(bytes)
 }

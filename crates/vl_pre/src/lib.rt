@@ -25,6 +25,7 @@ mod macros;
 mod names;
 mod pieces;
 mod reading;
+pub mod tables;
 #[cfg(test)]
 mod tests;
 

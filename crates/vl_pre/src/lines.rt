@@ -7,7 +7,7 @@ ghost use Rattle.vl_pre.specs.Reading as r;
 ghost use Rattle.vl_pre.specs.Reading.{Keeps, ReadsPart};
 ghost use Rattle.vl_pre.specs.Views as v;
 
-use crate::bytes::{at_line_end, is_allowed};
+use crate::bytes::{ends_line, is_allowed};
 use crate::cursor::{Cursor, skip, skip_block, skip_line};
 use crate::fault::in_text;
 use crate::pieces::{First, at_continued, first_of, kept_length};
@@ -28,17 +28,10 @@ pub fn rest_of_line(alloc: Global, at: &mut Cursor, continues: bool) -> Result<T
     ensures { ReadsPart at.new (p.rest_of_line (length at.old) continues at.old) result }
 {
     let mut body = Vec::new(alloc);
-    while !ended(at.bytes()) {
+    while !ends_line(at.bytes()) {
         read_next(&mut body, at, continues)?;
     }
     Ok(Text::of_bytes(body))
-}
-
-// No more stands on the line.
-fn ended(bytes: &[u8]) -> bool
-    ensures { result ≡ r.ended bytes.now }
-{
-    bytes.is_empty() || at_line_end(bytes)
 }
 
 fn in_line(bytes: &[u8], continues: bool) -> InLine

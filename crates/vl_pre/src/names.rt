@@ -4,11 +4,13 @@ ghost use Rattle.std.specs.Prelude.{◌≡◌, ◌<◌, length, codes, option_ma
 ghost use Rattle.vl_pre.specs.Bytes as b;
 ghost use Rattle.vl_pre.specs.Directives as d;
 ghost use Rattle.vl_pre.specs.Reading.{Finds, Moves};
+ghost use Rattle.vl_pre.specs.Tables.{entry};
 ghost use Rattle.vl_pre.specs.Views as v;
 
 use crate::bytes::{at_line_end, is_white, next};
 use crate::cursor::{Cursor, name_at, skip, skip_block};
 use crate::fault::in_text;
+use crate::tables::find;
 use vl_tree::fault::{FaultKind, StaticFault};
 
 /// A directive.
@@ -34,82 +36,25 @@ pub enum Ticked {
     Macro,
 }
 
-/// A name and the directive that it is.
-#[derive(Clone, Copy)]
-pub struct Entry {
-    pub word: &'static [u8],
-    pub directive: Directive,
-}
-
-static DIRECTIVES: [Entry; 13] = [
-    Entry {
-        word: b"define",
-        directive: Directive::Define,
-    },
-    Entry {
-        word: b"undef",
-        directive: Directive::Undef,
-    },
-    Entry {
-        word: b"ifdef",
-        directive: Directive::Ifdef,
-    },
-    Entry {
-        word: b"ifndef",
-        directive: Directive::Ifndef,
-    },
-    Entry {
-        word: b"elsif",
-        directive: Directive::Elsif,
-    },
-    Entry {
-        word: b"else",
-        directive: Directive::Else,
-    },
-    Entry {
-        word: b"endif",
-        directive: Directive::Endif,
-    },
-    Entry {
-        word: b"timescale",
-        directive: Directive::Passed,
-    },
-    Entry {
-        word: b"default_nettype",
-        directive: Directive::Passed,
-    },
-    Entry {
-        word: b"resetall",
-        directive: Directive::Passed,
-    },
-    Entry {
-        word: b"celldefine",
-        directive: Directive::Passed,
-    },
-    Entry {
-        word: b"endcelldefine",
-        directive: Directive::Passed,
-    },
-    Entry {
-        word: b"include",
-        directive: Directive::Include,
-    },
+static DIRECTIVES: [(&[u8], Directive); 13] = [
+    (b"define", Directive::Define),
+    (b"undef", Directive::Undef),
+    (b"ifdef", Directive::Ifdef),
+    (b"ifndef", Directive::Ifndef),
+    (b"elsif", Directive::Elsif),
+    (b"else", Directive::Else),
+    (b"endif", Directive::Endif),
+    (b"timescale", Directive::Passed),
+    (b"default_nettype", Directive::Passed),
+    (b"resetall", Directive::Passed),
+    (b"celldefine", Directive::Passed),
+    (b"endcelldefine", Directive::Passed),
+    (b"include", Directive::Include),
 ];
-
-fn find(entries: &[Entry], name: &[u8]) -> Option<Directive>
-    ensures { option_map v.directive_of result ≡ d.entry (v.pairs entries.now) name.now }
-{
-    for entry in entries {
-        if entry.word == name {
-            return Some(entry.directive);
-        }
-    }
-    None
-}
 
 // The directive of this name.
 fn directive_of(name: &[u8]) -> Option<Directive>
-    ensures { option_map v.directive_of result ≡ d.entry d.directives name.now }
+    ensures { option_map v.directive_of result ≡ entry d.directives name.now }
 {
     find(DIRECTIVES.as_slice(), name)
 }
