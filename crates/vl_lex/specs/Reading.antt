@@ -1,14 +1,12 @@
 -- What the readers answer, beside what the definition says. This project's own.
-use Rattle.std.specs.Prelude.{ℕ, ◌^◌, ◌<◌, ◌≤◌, ◌≡◌, ◌==◌, Bool, true, false, ◌||◌, if◌then◌else◌, List, [], ◌∷◌, ◌++◌, ◌⊎◌, map, length, Option, Some, None, Result, Ok, Err, codes}
+use Rattle.std.specs.Prelude.{ℕ, ◌^◌, ◌<◌, ◌≤◌, ◌≡◌, ◌==◌, Bool, true, false, ◌||◌, if◌then◌else◌, List, [], ◌∷◌, ◌++◌, ◌⊎◌, length, Option, Some, None, Result, Ok, Err, codes}
 use Rattle.vl_tree.specs.declared.token.Mark.{Mark}
 use Rattle.vl_tree.specs.declared.token.Literal as literal
 use Rattle.vl_tree.specs.declared.token.Token as code
 use Rattle.vl_tree.specs.declared.token.TokenKind.{TokenKind}
-use Rattle.vl_tree.specs.Token.{mark, Tokens, Literal, literal_of, coded_kind}
-use Rattle.std.specs.Borrow.{Bor}
+use Rattle.vl_tree.specs.Token.{mark, Literal, literal_of, coded_kind}
 use Rattle.vl_tree.specs.declared.fault.FaultKind.{FaultKind}
-use Rattle.vl_tree.specs.declared.fault.FaultKind.TheVariants.{BadToken, BadNumber, TooWide, OpenString, TooManyTokens}
-use Rattle.vl_lex.specs.Faults.{Fault}
+use Rattle.vl_tree.specs.declared.fault.FaultKind.TheVariants.{BadToken, BadNumber, TooWide, TooManyTokens}
 use Rattle.vl_pre.specs.Bytes.{begins}
 use Rattle.vl_pre.specs.Pieces.{string_length}
 use Rattle.vl_lex.specs.Numbers as n

@@ -1,5 +1,5 @@
 -- Strings: their spellings and the bytes that they stand for (IEEE 1364-2005, 3.6 and 3.6.3).
-use Rattle.std.specs.Prelude.{ℕ, zero, suc, ◌+◌, ◌==◌, nat_le, Bool, true, ◌||◌, if◌then◌else◌, List, [], ◌∷◌, take, drop, length, Option, Some, None, Result, Ok, Err}
+use Rattle.std.specs.Prelude.{ℕ, zero, suc, ◌+◌, ◌==◌, nat_le, Bool, ◌||◌, if◌then◌else◌, List, [], ◌∷◌, take, drop, length, Option, Some, None, Result, Ok, Err}
 use Rattle.std.specs.List.{prefix_len}
 use Rattle.vl_pre.specs.Bytes.{between, ends_line}
 use Rattle.vl_tree.specs.declared.fault.FaultKind.{FaultKind}

@@ -167,5 +167,8 @@ pub fn read_token(alloc: Global, first: u8, bytes: &[u8]) -> Result<Found, Wrong
     if first == b'"' {
         return read_string_token(alloc, after(bytes, 1));
     }
-    Ok(read_mark(bytes)?)
+    match read_mark(bytes) {
+        Ok(found) => Ok(found),
+        Err(kind) => Err(Wrong::Bad(kind)),
+    }
 }
