@@ -6,5 +6,6 @@ pub mod Pieces
 pub mod Directives
 pub mod CleanText
 pub mod Laws
+pub mod Selects
 pub mod Views
 pub mod Reading

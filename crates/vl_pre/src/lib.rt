@@ -10,7 +10,8 @@
 
 ghost use Rattle.std.specs.Prelude.{◌≡◌, ◌-◌, ◌^◌, ◌<◌, length, Ok, IfOk, IfErr};
 ghost use Rattle.vl_pre.specs.CleanText.{clean_text};
-ghost use Rattle.vl_pre.specs.Laws.{PlainComesThrough, ReadInFirstToHold, UseReadsAsBody};
+ghost use Rattle.vl_pre.specs.Laws.{PlainComesThrough, UseReadsAsBody};
+ghost use Rattle.vl_pre.specs.Selects.{SelectsCleanText};
 ghost use Rattle.vl_tree.specs.Fault.{HasFault, fault_of};
 
 pub mod bytes;
@@ -59,7 +60,7 @@ pub fn macro_use_law()
     ensures { UseReadsAsBody }
 {}
 
-/// Text is read exactly where each open condition is in its first branch that holds.
+/// What the conditions of a text select, each the first of its branches that holds, is its clean text.
 pub fn condition_law()
-    ensures { ReadInFirstToHold }
+    ensures { SelectsCleanText }
 {}
