@@ -1,11 +1,13 @@
 -- Worked examples of clean text. A line's end is 10.
 use Rattle.std.proofs.Common.{◌≡◌, ℕ, List, [], ◌∷◌, ◌++◌, refl}
-use Rattle.std.specs.Prelude.{codes, Result, Ok, Err}
+use Rattle.std.specs.Prelude.{true, codes, Result, Ok, Err}
 use Rattle.vl_pre.specs.Bytes.{Text, placed, all_at}
 use Rattle.vl_tree.specs.declared.fault.FaultKind.TheVariants.{BadDirective, Unbalanced, UnknownMacro, MacroDepth, TooLong, BadByte, OpenComment}
 use Rattle.vl_tree.specs.declared.fault.FaultKind.{FaultKind}
 use Rattle.vl_pre.specs.Pieces.{Fault, fault}
 use Rattle.vl_pre.specs.CleanText.{clean_text, within, reading}
+use Rattle.vl_pre.specs.Directives.{no_macros}
+use Rattle.vl_pre.specs.Selects.{Skips, Reads, Chooses}
 
 abbrev is_at : FaultKind → ℕ → Result Text Fault
 is_at kind line = Err (fault kind line)
@@ -219,3 +221,11 @@ elsif_after_else = refl
 -- with a condition its NAME is looked at
 elsif_without_name : clean_text (lines (codes "`ifdef A" ∷ codes "`elsif" ∷ codes "`endif" ∷ [])) ≡ is_at BadDirective 2
 elsif_without_name = refl
+
+-- what a text with conditions selects, by its rules: nothing is defined, so `else` is read
+selects_else : Reads no_macros (placed 1 (codes "`ifdef A a`else b`endif c")) [] (all_at 1 (codes " b c")) no_macros
+selects_else =
+    Reads.a_condition true 1 (codes "A") (_, (refl, refl, refl, refl), refl)
+    (Chooses.by_else 1 1 (Skips.a_piece (λ x. refl) (Skips.a_piece (λ x. refl) Skips.at_once)) (refl, refl, refl, refl)
+    (Reads.a_piece (λ cs. refl) (Reads.a_piece (λ cs. refl) Reads.at_once)) (refl, refl, refl, refl))
+    (Reads.a_piece (λ cs. refl) (Reads.a_piece (λ cs. refl) Reads.at_once))
