@@ -15,7 +15,7 @@ use Rattle.vl_pre.specs.Bytes.{Text}
 use Rattle.vl_pre.specs.CleanText.{clean_text}
 use Rattle.vl_lex.specs.Tokens.{tokens_of}
 use Rattle.vl_front.specs.Spelled.{by_clean_text}
-use Rattle.vl_front.specs.Faults.{of_static, of_tree}
+use Rattle.vl_front.specs.Calls.Faults.{of_static, of_tree}
 use Rattle.vl_front.specs.Reads.{IsFirst, Reads}
 use Rattle.vl_front.specs.OneModule.{IsOneModule, IsDesign, IsNoDesign}
 

@@ -21,7 +21,7 @@ pub enum DesignFault {
 
 impl From<StaticFault> for DesignFault {
     ghost use Rattle.std.specs.Prelude.{◌≡◌};
-    ghost use Rattle.vl_front.specs.Faults.{of_static};
+    ghost use Rattle.vl_front.specs.Calls.Faults.{of_static};
 
     ghost from_gives = { λ fault e. e ≡ of_static fault };
 
@@ -39,7 +39,7 @@ impl From<StaticFault> for DesignFault {
 
 impl From<SynFault> for DesignFault {
     ghost use Rattle.std.specs.Prelude.{◌≡◌};
-    ghost use Rattle.vl_front.specs.Faults.{of_tree};
+    ghost use Rattle.vl_front.specs.Calls.Faults.{of_tree};
 
     ghost from_gives = { λ fault e. e ≡ of_tree fault };
 

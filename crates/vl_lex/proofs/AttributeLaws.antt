@@ -8,7 +8,7 @@ use Rattle.std.proofs.lemmas.Slice.Eq.{starts_is}
 use Rattle.vl_pre.specs.Bytes.{begins, at_line_end}
 use Rattle.vl_pre.specs.Pieces.{string_length}
 use Rattle.vl_lex.specs.Attributes.{after_white, opens_attribute, string_after, more, close_after, close_from}
-use Rattle.vl_lex.specs.Reading.{inside, ends_attribute, after_byte}
+use Rattle.vl_lex.specs.Calls.Reading.{inside, ends_attribute, after_byte}
 use Rattle.vl_lex.specs.declared.attributes.Within.{Within}
 use Rattle.vl_lex.specs.declared.attributes.Within.TheVariants as within
 

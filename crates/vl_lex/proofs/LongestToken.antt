@@ -16,7 +16,7 @@ use Rattle.vl_lex.specs.Digits.{value_of}
 use Rattle.vl_lex.specs.Numbers.{Counted, Format, is_in_decimal, digits_length, goes_on, plain_literal, plain_number, literal_of_size, counted, based_number, number_by, number_at, format_at}
 use Rattle.vl_lex.specs.Strings as s
 use Rattle.vl_lex.specs.Tokens.{Spelled, short, word_kind, name_token, is_in_escaped, escaped_token, or_other, system_token, number_token, string_token, mark_token, Class, of_name, of_number, of_system, of_escaped, of_string, of_mark, class_of, token_of, token_at}
-use Rattle.vl_lex.specs.Spelled.{TakesLongest}
+use Rattle.vl_lex.specs.Laws.Spelled.{TakesLongest}
 use Rattle.vl_lex.proofs.PieceLaws.{one_length, unless_ok, short_ok, some_word_ok, counted_ok, token_some}
 use Rattle.vl_lex.proofs.LongestLaws.{take-take-le, drop-take-le, prefix_len-take, name_length-take, digits_length-take, goes_on-take, format_none, format_less, begins_less, begins_not}
 

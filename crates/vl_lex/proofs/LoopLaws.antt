@@ -12,7 +12,7 @@ use Rattle.vl_tree.specs.declared.fault.FaultKind.{FaultKind}
 use Rattle.vl_tree.specs.declared.fault.FaultKind.TheVariants.{TooManyTokens}
 use Rattle.vl_lex.specs.Tokens.{gap, spelt, piece_at, Lexed, ahead, stuck, lexed, lexed_from, most_tokens, answer, at_most, tokens_of}
 use Rattle.vl_lex.specs.Faults.{fault}
-use Rattle.vl_lex.specs.Reading.{piece_of, IsFault, Takes, Steps}
+use Rattle.vl_lex.specs.Calls.Reading.{piece_of, IsFault, Takes, Steps}
 use Rattle.vl_tree.specs.Fault.{HasFault, fault_of}
 use Rattle.vl_tree.specs.declared.fault.StaticFault.{StaticFault}
 use Rattle.vl_tree.specs.declared.fault.StaticFault.TheVariants as f

@@ -3,7 +3,7 @@ use Rattle.std.proofs.Common.{◌≡◌, ℕ, List, [], ◌∷◌, refl, sym, ap
 use Rattle.std.specs.Prelude.{Result}
 use Rattle.std.specs.List.{prefix_len}
 use Rattle.vl_lex.specs.Numbers.{is_in_decimal, format_at, plain_number, number_by, number_at}
-use Rattle.vl_lex.specs.Reading.{Tells}
+use Rattle.vl_lex.specs.Calls.Reading.{Tells}
 use Rattle.vl_tree.specs.declared.fault.FaultKind.{FaultKind}
 use Rattle.vl_lex.specs.declared.numbers.Number.{Number}
 

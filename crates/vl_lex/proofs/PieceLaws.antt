@@ -15,7 +15,7 @@ use Rattle.vl_lex.specs.Numbers.{Counted, Format, is_in_decimal, format_at, coun
 use Rattle.vl_lex.specs.Strings.{string_at}
 use Rattle.vl_lex.specs.Attributes.{close_from}
 use Rattle.vl_lex.specs.Tokens.{Spelled, or_other, is_in_escaped, most_name, short, word_kind, name_token, number_token, string_token, mark_token, Class, of_name, of_number, of_system, of_escaped, of_string, of_mark, class_of, token_of, token_at, Piece, gap, spelt, Lead, white, attribute, spelling, lead_of, attribute_piece, token_piece, piece_by, piece_at}
-use Rattle.vl_lex.specs.Spelled.{size_of}
+use Rattle.vl_lex.specs.Laws.Spelled.{size_of}
 
 -- an answer has one length
 pub one_length : {X : Type 0} → (x y : X) (m n : ℕ) (r : Result (X × ℕ) FaultKind) → r ≡ Ok (x, m) → r ≡ Ok (y, n) → m ≡ n

@@ -9,7 +9,7 @@ use Rattle.vl_tree.specs.declared.fault.FaultKind.{FaultKind}
 use Rattle.vl_tree.specs.declared.fault.FaultKind.TheVariants.{TooManyTokens}
 use Rattle.vl_lex.specs.Faults.{Fault, fault}
 use Rattle.vl_lex.specs.Tokens.{Piece, gap, spelt, piece_at, Lexed, ahead, stuck, lexed, lexed_from, most_tokens, answer, at_most, tokens_of}
-use Rattle.vl_lex.specs.Spelled.{size_of, Leads, tokens_in, AreTokens, FailsAt, PassesAt, HaveOneList}
+use Rattle.vl_lex.specs.Laws.Spelled.{size_of, Leads, tokens_in, AreTokens, FailsAt, PassesAt, HaveOneList}
 use Rattle.vl_lex.proofs.PieceLaws.{piece_some}
 
 -- ---- one step

@@ -1,5 +1,5 @@
 -- Numbers: their spellings and what they say (IEEE 1364-2005, 3.5.1; limits are this project's own).
-use Rattle.std.specs.Prelude.{ℕ, ◌+◌, ◌%◌, ◌^◌, ◌==◌, nat_le, Bool, true, false, ◌||◌, if◌then◌else◌, List, [], ◌∷◌, take, drop, length, Option, Some, None, Result, Ok, Err}
+use Rattle.std.specs.Prelude.{ℕ, ◌+◌, ◌%◌, ◌^◌, ◌==◌, nat_le, nat_lt, Bool, true, false, ◌||◌, if◌then◌else◌, List, [], ◌∷◌, take, drop, length, Option, Some, None, Result, Ok, Err}
 use Rattle.std.specs.List.{prefix_len}
 use Rattle.vl_tree.specs.Token.{Literal}
 use Rattle.vl_pre.specs.Bytes.{is_digit, begins_name}
@@ -8,6 +8,7 @@ use Rattle.vl_tree.specs.declared.fault.FaultKind.TheVariants.{BadToken, BadNumb
 use Rattle.vl_lex.specs.Faults.{unless}
 use Rattle.vl_lex.specs.declared.digits.Base.{Base}
 use Rattle.vl_lex.specs.Digits.{base_of, is_x, is_z, is_digit_of, value_of, radix, wild_of}
+use Rattle.dt_core.specs.declared.limits.TheConstants.{MAX_WIDTH}
 
 -- a literal, and how many bytes its spelling has
 abbrev pub Counted : Type 0
@@ -83,10 +84,10 @@ abbrev pub literal_within : Bool → ℕ → Bool → Bool → Base → List ℕ
 literal_within true width sized signed base digits = Err TooWide
 literal_within false width sized signed base digits = Ok (based_literal width sized signed base digits)
 
--- the literal of this width: of 128 bits at most, and with digits below 2^128
+-- the literal of this width: of no more bits than there may be, and with digits below 2^128
 abbrev pub sized_literal : ℕ → Bool → Base → List ℕ → Result Literal FaultKind
 sized_literal width signed base digits =
-    let wide = nat_le 129 width || nat_le (2 ^ 128) (value_of (radix base) digits) in
+    let wide = nat_lt MAX_WIDTH width || nat_le (2 ^ 128) (value_of (radix base) digits) in
     unless (width == 0) BadNumber (literal_within wide width true signed base digits)
 
 -- the literal without a size: of 32 bits, into which its digits fit

@@ -2,7 +2,7 @@
 
 ghost use Rattle.std.specs.Prelude.{◌≡◌, ◌+◌, ◌≤◌, ◌<◌, ◌∷◌, ◌^◌, length, IfSome, IsTrue};
 ghost use Rattle.vl_lex.specs.Attributes as a;
-ghost use Rattle.vl_lex.specs.Reading as r;
+ghost use Rattle.vl_lex.specs.Calls.Reading as r;
 
 use vl_pre::bytes::{after, is_white, next};
 

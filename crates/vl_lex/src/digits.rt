@@ -2,7 +2,7 @@
 
 ghost use Rattle.std.specs.Prelude.{◌≡◌, ◌+◌, ◌-◌, ◌*◌, ◌%◌, ◌^◌, ◌≤◌, ◌<◌, ◌==◌, if◌then◌else◌, ℕ, ◌∷◌, length, map};
 ghost use Rattle.vl_lex.specs.Digits as d;
-ghost use Rattle.vl_lex.specs.Reading.{IsValue};
+ghost use Rattle.vl_lex.specs.Calls.Reading.{IsValue};
 
 use dt_core::limits::MAX_WIDTH;
 use vl_pre::bytes::{is_digit, next};
@@ -129,7 +129,7 @@ pub fn digits_value(radix: u128, digits: &[u8]) -> Option<u128>
 
 /// The lowest bits of a value.
 pub fn low_bits(width: u32, value: u128) -> u128
-    requires { width ≤ 128 }
+    requires { width ≤ MAX_WIDTH }
     ensures value { result ≡ value % 2 ^ width }
     ensures fits { result < 2 ^ width }
 {
@@ -142,7 +142,7 @@ pub fn low_bits(width: u32, value: u128) -> u128
 
 // Ones in so many bits.
 fn all_bits(width: u32) -> u128
-    requires { width ≤ 128 }
+    requires { width ≤ MAX_WIDTH }
     ensures { result ≡ 2 ^ width - 1 }
 {
     if width == MAX_WIDTH {
@@ -162,7 +162,7 @@ fn z_bits(bits: u32, byte: u8) -> u128
 
 // What stands before the wild bits of digits at a width: ones where the leftmost digit is a `z`.
 fn wild_left(width: u32, digits: &[u8]) -> u128
-    requires { width ≤ 128 }
+    requires { width ≤ MAX_WIDTH }
     ensures { result ≡ d.wild_left width digits.now }
 {
     match next(digits) {
@@ -198,7 +198,7 @@ fn wild_after(bits: u32, before: u128, digits: &[u8]) -> u128
 
 /// The wild bits of digits at a width.
 pub fn wild_bits(base: Base, width: u32, digits: &[u8]) -> u128
-    requires { width ≤ 128 }
+    requires { width ≤ MAX_WIDTH }
     ensures value { result ≡ d.wild_of base width digits.now }
     ensures fits { result < 2 ^ width }
 {

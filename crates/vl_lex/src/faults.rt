@@ -1,7 +1,7 @@
 //! Faults of a text that has no tokens, and why no token stands at a place.
 
 ghost use Rattle.std.specs.Prelude.{◌≡◌};
-ghost use Rattle.vl_lex.specs.Reading.{fault_on};
+ghost use Rattle.vl_lex.specs.Calls.Reading.{fault_on};
 ghost use Rattle.vl_tree.specs.Fault.{on_line};
 
 use vl_tree::fault::{FaultKind, StaticFault};

@@ -11,8 +11,8 @@ ghost use Rattle.vl_tree.specs.Token.{all_coded};
 ghost use Rattle.vl_tree.specs.Fault.{HasFault, fault_of};
 ghost use Rattle.vl_pre.specs.Bytes.{joined};
 ghost use Rattle.vl_lex.specs.Tokens.{tokens_of, piece_at};
-ghost use Rattle.vl_lex.specs.Spelled.{ComputesTokens, HaveOneList, TakesLongest};
-ghost use Rattle.vl_lex.specs.Reading.{Pushes, Takes, Steps};
+ghost use Rattle.vl_lex.specs.Laws.Spelled.{ComputesTokens, HaveOneList, TakesLongest};
+ghost use Rattle.vl_lex.specs.Calls.Reading.{Pushes, Takes, Steps};
 
 mod attributes;
 mod digits;

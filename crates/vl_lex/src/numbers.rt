@@ -4,7 +4,7 @@ ghost use Rattle.std.specs.Prelude.{◌==◌, ◌≡◌, ◌+◌, ◌^◌, ◌�
 ghost use Rattle.std.specs.List.{prefix_len};
 ghost use Rattle.vl_lex.specs.Numbers as n;
 ghost use Rattle.vl_lex.specs.Digits.{value_of};
-ghost use Rattle.vl_lex.specs.Reading.{IsWidth, IsLiteral, IsFormat, Tells, format_of};
+ghost use Rattle.vl_lex.specs.Calls.Reading.{IsWidth, IsLiteral, IsFormat, Tells, format_of};
 
 use crate::digits::{Base, digits_value, is_digit_of, is_x, is_z, low_bits, wild_bits};
 use dt_core::limits::MAX_WIDTH;
@@ -184,7 +184,7 @@ fn width_of(size: &[u8]) -> Result<u32, FaultKind>
 
 // The literal of this width and these digits.
 fn sized_literal(width: u32, signed: bool, base: Base, digits: &[u8]) -> Result<Literal, FaultKind>
-    requires { (1 ≤ width) × (width ≤ 128) }
+    requires { (1 ≤ width) × (width ≤ MAX_WIDTH) }
     ensures { IsLiteral (n.sized_literal width signed base digits.now) result }
 {
     let Some(value) = digits_value(base.radix(), digits) else {

@@ -2,7 +2,7 @@
 
 ghost use Rattle.std.specs.Prelude.{◌≡◌, ◌^◌, ◌≤◌, ◌<◌, ◌∷◌, ℕ, List, length, IfOk};
 ghost use Rattle.vl_lex.specs.Tokens as t;
-ghost use Rattle.vl_lex.specs.Reading.{Stands, StandsAlone};
+ghost use Rattle.vl_lex.specs.Calls.Reading.{Stands, StandsAlone};
 
 use crate::attributes::{close_length, opens_attribute};
 use crate::faults::Wrong;

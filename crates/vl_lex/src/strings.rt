@@ -3,7 +3,7 @@
 ghost use Rattle.std.specs.Prelude.{◌≡◌, ◌+◌, ◌^◌, ◌≤◌, ◌<◌, ◌∷◌, length, take, IfOk, IfSome};
 ghost use Rattle.std.specs.List.{prefix_len};
 ghost use Rattle.vl_lex.specs.Strings as s;
-ghost use Rattle.vl_lex.specs.Reading.{IsCharacter, IsCharacterOrEnd, Quotes};
+ghost use Rattle.vl_lex.specs.Calls.Reading.{IsCharacter, IsCharacterOrEnd, Quotes};
 
 use crate::digits::digits_value;
 use crate::faults::Wrong;

@@ -8,7 +8,7 @@ ghost use Rattle.std.specs.List.{prefix_len};
 ghost use Rattle.vl_lex.specs.Tokens as t;
 ghost use Rattle.vl_lex.specs.Numbers.{number_at};
 ghost use Rattle.vl_lex.specs.Strings.{string_at};
-ghost use Rattle.vl_lex.specs.Reading.{Spells, SpellsAlone};
+ghost use Rattle.vl_lex.specs.Calls.Reading.{Spells, SpellsAlone};
 
 use crate::faults::Wrong;
 use crate::numbers::read_number;

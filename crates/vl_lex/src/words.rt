@@ -3,7 +3,7 @@
 ghost use Rattle.std.specs.Prelude.{◌≡◌, ◌≤◌, ◌<◌, length};
 ghost use Rattle.vl_lex.specs.Words as w;
 ghost use Rattle.vl_pre.specs.Tables.{entry, pairs};
-ghost use Rattle.vl_lex.specs.Reading.{FindsMark};
+ghost use Rattle.vl_lex.specs.Calls.Reading.{FindsMark};
 
 use vl_pre::tables::find;
 use vl_tree::token::{Key, Mark, System};

@@ -9,7 +9,7 @@ use Rattle.vl_tree.specs.declared.fault.FaultKind.TheVariants.{UnknownMacro, Mac
 use Rattle.vl_pre.specs.Pieces.{Head, line_comment, block_comment, a_string, escaped_name, a_backtick, any_other, Part, Fault, fault, fails, before, go_on, go_by, first}
 use Rattle.vl_pre.specs.Directives.{Ticked, no_name, a_directive, a_macro, Macros, ticked}
 use Rattle.vl_pre.specs.CleanText.{body_tick, body_piece, body_reading, whole_body, expanded, use_of}
-use Rattle.vl_pre.specs.Reading.{IsBlank, is_from, KnowsBlanks, Notes, Wrote, Gives, EndsWith}
+use Rattle.vl_pre.specs.Calls.Reading.{IsBlank, is_from, KnowsBlanks, Notes, Wrote, Gives, EndsWith}
 use Rattle.std.proofs.lemmas.Bool.{leb-true}
 use Rattle.std.proofs.lemmas.Slice.Eq.{bytes_eq-Decides}
 use Rattle.vl_tree.specs.declared.fault.StaticFault.{StaticFault}

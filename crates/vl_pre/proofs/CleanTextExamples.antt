@@ -7,7 +7,7 @@ use Rattle.vl_tree.specs.declared.fault.FaultKind.{FaultKind}
 use Rattle.vl_pre.specs.Pieces.{Fault, fault}
 use Rattle.vl_pre.specs.CleanText.{clean_text, within, reading}
 use Rattle.vl_pre.specs.Directives.{no_macros}
-use Rattle.vl_pre.specs.Selects.{Skips, Reads, Chooses}
+use Rattle.vl_pre.specs.Laws.Selects.{Skips, Reads, Chooses}
 
 abbrev is_at : FaultKind → ℕ → Result Text Fault
 is_at kind line = Err (fault kind line)

@@ -2,7 +2,7 @@
 use Rattle.std.proofs.Common.{◌≡◌, ℕ, zero, suc, ◌-◌, ◌<◌, Bool, true, false, List, [], ◌∷◌, drop, refl, ap, sym, ◌∙◌, arith}
 use Rattle.std.specs.Prelude.{Some, codes}
 use Rattle.vl_pre.specs.Bytes.{Text, Placed, line_after, placed, all_at, bytes, begins}
-use Rattle.vl_pre.specs.Cursors.{text_from}
+use Rattle.vl_pre.specs.Calls.Cursors.{text_from}
 use Rattle.vl_pre.specs.Pieces.{stops_line, from_stop, after_close}
 
 bytes-placed : (line : ℕ) (bs : List ℕ) → bytes (placed line bs) ≡ bs

@@ -9,7 +9,7 @@ use Rattle.vl_pre.specs.Bytes.{Text, bytes, begins, is_white}
 use Rattle.vl_tree.specs.declared.fault.FaultKind.TheVariants.{BadDirective}
 use Rattle.vl_pre.specs.Pieces.{Part, Fault, fault, and_then, rest_of_line}
 use Rattle.vl_pre.specs.Directives.{define, Context, After, name_of, without_blanks, trimmed, whole_by, line_of, define_by, defined, with_macros, directive_step}
-use Rattle.vl_pre.specs.Reading.{HasFault, PartHasFault, Kept, Goes}
+use Rattle.vl_pre.specs.Calls.Reading.{HasFault, PartHasFault, Kept, Goes}
 
 -- ---- white space at the end
 

@@ -12,8 +12,8 @@ use Rattle.vl_pre.specs.Bytes.{Text, Placed, bytes, begins, name_at}
 use Rattle.vl_tree.specs.declared.fault.FaultKind.TheVariants.{BadDirective}
 use Rattle.vl_pre.specs.Pieces.{line_comment, block_comment, continued, inside, Part, Fault, fault, gives, stops, go_on, and_then, from_stop, after_block, blank, in_line, kept, kept_length, rest_of_line}
 use Rattle.vl_pre.specs.Directives.{Ticked, no_name, a_directive, a_macro, ticked, at_gap, after_one, after_gap, macro_name, name_of}
-use Rattle.vl_pre.specs.Views.{head_of, in_line_of, ticked_of}
-use Rattle.vl_pre.specs.Reading.{HasFault, PartHasFault, Keeps, next_in_line, piece_at, piece_in_line, head_line}
+use Rattle.vl_pre.specs.Calls.Views.{head_of, in_line_of, ticked_of}
+use Rattle.vl_pre.specs.Calls.Reading.{HasFault, PartHasFault, Keeps, next_in_line, piece_at, piece_in_line, head_line}
 use Rattle.vl_pre.specs.Bytes.{ends_line}
 
 pub length-bytes : (ts : Text) → length (bytes ts) ≡ length ts

@@ -10,9 +10,9 @@ use Rattle.vl_tree.specs.declared.fault.FaultKind.TheVariants.{UnknownMacro, Mac
 use Rattle.vl_pre.specs.Pieces.{Part, gives, fails, go_on, first}
 use Rattle.vl_pre.specs.Directives.{Ticked, no_name, a_directive, a_macro, Macros, ticked}
 use Rattle.vl_pre.specs.CleanText.{use_of, expanded, whole_body, body_reading, body_tick}
-use Rattle.vl_pre.specs.Views.{head_of, ticked_of}
+use Rattle.vl_pre.specs.Calls.Views.{head_of, ticked_of}
 use Rattle.vl_pre.proofs.LineLaws.{macro_tick, no_macro_tick}
-use Rattle.vl_pre.specs.Reading.{piece_at, body_piece_at, body_use_at}
+use Rattle.vl_pre.specs.Calls.Reading.{piece_at, body_piece_at, body_use_at}
 
 pub use_unknown : (depth : ℕ) (m : Macros) (line : ℕ) (name : List ℕ) → m name ≡ None → use_of depth m line name ≡ fails UnknownMacro line
 use_unknown zero m line name e = rw e refl

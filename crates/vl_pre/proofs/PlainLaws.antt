@@ -7,7 +7,7 @@ use Rattle.vl_pre.specs.Bytes.{Text, Placed, at_line, bytes, begins, placed, all
 use Rattle.vl_pre.specs.Pieces.{a_string, escaped_name, any_other, Part, gives, before, go_on, first, as_it_stands, kept, string_length, escaped_length}
 use Rattle.vl_pre.specs.Directives.{Context}
 use Rattle.vl_pre.specs.CleanText.{Step, step, body_piece, body_reading, whole_body, expanded, use_of, reading_from, reading, start, answer, within}
-use Rattle.vl_pre.specs.Laws.{is_plain, PlainComesThrough, UseReadsAsBody}
+use Rattle.vl_pre.specs.Laws.Plain.{is_plain, PlainComesThrough, UseReadsAsBody}
 use Rattle.vl_pre.proofs.CursorLaws.{bytes-text_from}
 use Rattle.vl_pre.proofs.ReadingLaws.{length-placed}
 

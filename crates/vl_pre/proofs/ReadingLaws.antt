@@ -13,8 +13,8 @@ use Rattle.vl_pre.specs.Bytes.{Text, Placed, bytes, placed, line_after, name_at,
 use Rattle.vl_pre.specs.Pieces.{Part, Fault, gives, go_on, and_then, first, from_stop, after_block, kept_length}
 use Rattle.vl_pre.specs.Directives.{Ticked, Condition, Context, After, went, is_read, ticked, is_conditional, directive_step}
 use Rattle.vl_pre.specs.CleanText.{Step, nothing, tick_step, skipped_tick, at_end, reading_from, reading, start, answer, within, clean_text}
-use Rattle.vl_pre.specs.Views.{head_of, ticked_of, directive_of}
-use Rattle.vl_pre.specs.Reading.{fault_of, HasFault, PartHasFault, EndsWith, Wrote, Writes, Gives, Goes, Finishes, Steps, context_of, piece_at, step_at, tick_at, skipped_at, skipped_tick_at}
+use Rattle.vl_pre.specs.Calls.Views.{head_of, ticked_of, directive_of}
+use Rattle.vl_pre.specs.Calls.Reading.{fault_of, HasFault, PartHasFault, EndsWith, Wrote, Writes, Gives, Goes, Finishes, Steps, context_of, piece_at, step_at, tick_at, skipped_at, skipped_tick_at}
 use Rattle.vl_pre.proofs.WriteLaws.{Leads, leads_as, leads_ends, leads_done, ends_stop, ends_anywhere, ends_fails}
 
 -- ---- the loop

@@ -5,7 +5,7 @@ use Rattle.vl_pre.specs.Bytes.{Placed, Text, placed, bytes, name_at}
 use Rattle.vl_pre.specs.Pieces.{a_backtick, Part, gives, before, first, go_on, and_then}
 use Rattle.vl_pre.specs.Directives.{Directive, ifdef, ifndef, elsif, otherwise, endif, a_directive, ticked, holds, Macros, no_macros, Condition, Context, went, is_read, is_conditional, first_branch, opened, branch_step, directive_step}
 use Rattle.vl_pre.specs.CleanText.{Step, step, nothing, reading_from, reading}
-use Rattle.vl_pre.specs.Selects.{within, Begins, opening, BeginsNamed, Skips, Passes, Reads, Chooses, SelectsCleanText}
+use Rattle.vl_pre.specs.Laws.Selects.{within, Begins, opening, BeginsNamed, Skips, Passes, Reads, Chooses, SelectsCleanText}
 use Rattle.vl_pre.proofs.WriteLaws.{before_more}
 use Rattle.vl_pre.proofs.StepLaws.{step_length}
 use Rattle.vl_pre.proofs.ReadingLaws.{length-placed, reading_ended, all_written}

@@ -7,7 +7,7 @@ use Rattle.vl_tree.specs.declared.fault.FaultKind.TheVariants.{BadByte}
 use Rattle.vl_pre.specs.Pieces.{Head, line_comment, block_comment, a_string, escaped_name, a_backtick, any_other, InLine, continued, inside, Part, Fault, fault, before, go_on, and_then, stops_line, from_stop, after_close, closed, after_block, string_length, escaped_length, as_it_stands, kept, blank_before, piece, first, in_line, line_piece, rest_of_line}
 use Rattle.vl_pre.specs.Directives.{Directive, define, undef, ifdef, ifndef, elsif, otherwise, endif, passed_over, include, Ticked, no_name, a_directive, a_macro, Condition, Context, After, went, is_read, at_gap, after_one, after_gap, ticked, macro_name, name_of, whole_by, line_of, define_by, branch_by, branch_step, may_turn, elsif_by, close_step, directive_step, is_conditional}
 use Rattle.vl_pre.specs.CleanText.{reading_from, body_tick, body_piece, body_reading, nothing, tick_step, read_step, skipped_directive, skipped_tick, skipped_step, step}
-use Rattle.vl_pre.specs.Reading.{HasFault, PartHasFault, Kept, Wrote, next_in_line, step_at, body_piece_at}
+use Rattle.vl_pre.specs.Calls.Reading.{HasFault, PartHasFault, Kept, Wrote, next_in_line, step_at, body_piece_at}
 use Rattle.vl_pre.specs.Bytes.{ends_line}
 use Rattle.vl_pre.proofs.CursorLaws.{at_close, close_here, close_next}
 use Rattle.vl_pre.proofs.LineLaws.{gap_ended, gap_more, gap_fault, some_left, rest_more}

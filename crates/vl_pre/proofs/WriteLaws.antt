@@ -8,7 +8,7 @@ use Rattle.vl_pre.specs.Bytes.{Placed, Text, bytes, most_clean}
 use Rattle.vl_tree.specs.declared.fault.FaultKind.TheVariants.{TooLong}
 use Rattle.vl_pre.specs.Pieces.{Part, Fault, fault, gives, before, stops, go_on, go_by}
 use Rattle.vl_pre.specs.CleanText.{answer}
-use Rattle.vl_pre.specs.Reading.{EndsWith, Wrote, Writes, Gives, PartHasFault, Kept}
+use Rattle.vl_pre.specs.Calls.Reading.{EndsWith, Wrote, Writes, Gives, PartHasFault, Kept}
 use Rattle.vl_tree.specs.declared.fault.StaticFault.{StaticFault}
 
 -- after a part without fault the next is read

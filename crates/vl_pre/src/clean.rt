@@ -3,8 +3,8 @@
 ghost use Rattle.std.specs.Prelude.{◌≡◌, ◌<◌, ◌≤◌, ◌∷◌, [], false, length, slice_get, option_map, Some};
 ghost use Rattle.vl_pre.specs.Bytes as b;
 ghost use Rattle.vl_pre.specs.Pieces as p;
-ghost use Rattle.vl_pre.specs.Reading.{Writes, piece_at};
-ghost use Rattle.vl_pre.specs.Views.{head_of};
+ghost use Rattle.vl_pre.specs.Calls.Reading.{Writes, piece_at};
+ghost use Rattle.vl_pre.specs.Calls.Views.{head_of};
 
 use crate::bytes::is_allowed;
 use crate::cursor::{Cursor, skip_block, skip_line};

@@ -1,7 +1,7 @@
 //! Conditions: which text is read.
 
 ghost use Rattle.std.specs.Prelude.{◌≡◌, ◌&&◌, ◌||◌, not};
-ghost use Rattle.vl_pre.specs.Views as v;
+ghost use Rattle.vl_pre.specs.Calls.Views as v;
 
 /// A condition's branch: none was read yet, this one is read, or no further one is read.
 #[derive(Clone, Copy, Debug)]

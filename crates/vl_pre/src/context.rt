@@ -4,8 +4,8 @@ ghost use Rattle.std.specs.Prelude.{◌≡◌, is_some};
 ghost use Rattle.vl_pre.specs.Bytes as b;
 ghost use Rattle.vl_pre.specs.Directives as d;
 ghost use Rattle.vl_pre.specs.CleanText as t;
-ghost use Rattle.vl_pre.specs.Reading.{Changes, Finishes, Goes};
-ghost use Rattle.vl_pre.specs.Views.{context_of};
+ghost use Rattle.vl_pre.specs.Calls.Reading.{Changes, Finishes, Goes};
+ghost use Rattle.vl_pre.specs.Calls.Views.{context_of};
 
 use crate::conditions::{Branch, Condition, first_branch, next_branch};
 use crate::fault::in_text;
@@ -35,7 +35,8 @@ impl Context {
 
     /// Gives a name this body in place of any that it had.
     pub fn define(&mut self, name: Text, body: Text) -> Result<(), StaticFault>
-        ensures { Changes (d.with_macros (d.defined name body (context_of self.old).macros) (context_of self.old)) self.new result }
+        ensures { Changes (d.with_macros (d.defined name body (context_of self.old).macros) (context_of self.old))
+            self.new result }
     {
         match self.macros.insert(name, body) {
             Ok(_) => Ok(()),
@@ -45,7 +46,8 @@ impl Context {
 
     /// Takes a name's body away, if it has one.
     pub fn undefine(&mut self, name: &Text)
-        ensures { context_of self.new ≡ d.with_macros (d.undefined name.now (context_of self.old).macros) (context_of self.old) }
+        ensures { context_of self.new
+            ≡ d.with_macros (d.undefined name.now (context_of self.old).macros) (context_of self.old) }
     {
         self.macros.swap_remove(name);
     }
@@ -113,7 +115,8 @@ impl Context {
 
     /// Ends the innermost condition.
     pub fn close(&mut self, line: u32) -> Result<(), StaticFault>
-        ensures { (rest : b.Text) → Goes rest self.new (d.close_step line (context_of self.old) (context_of self.old).conditions rest) result }
+        ensures { (rest : b.Text) → Goes rest self.new
+            (d.close_step line (context_of self.old) (context_of self.old).conditions rest) result }
     {
         match self.conditions.pop() {
             Some(_) => Ok(()),

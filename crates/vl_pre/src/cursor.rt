@@ -3,7 +3,7 @@
 ghost use Rattle.std.specs.Prelude.{◌≡◌, ◌-◌, ◌^◌, ◌<◌, ◌≤◌, ◌∷◌, [], length, drop, codes, MatchOption};
 ghost use Rattle.vl_pre.specs.Bytes as b;
 ghost use Rattle.vl_pre.specs.Pieces as p;
-ghost use Rattle.vl_pre.specs.Reading.{Closes, Passes};
+ghost use Rattle.vl_pre.specs.Calls.Reading.{Closes, Passes};
 
 use crate::bytes::{name_length, next};
 use crate::fault::in_text;
@@ -21,7 +21,7 @@ pub struct Cursor<'a> {
 
 impl<'a> Model for Cursor<'a> {
     ghost use Rattle.vl_pre.specs.Bytes.{Text};
-    ghost use Rattle.vl_pre.specs.Cursors.{text_from, LinesFit};
+    ghost use Rattle.vl_pre.specs.Calls.Cursors.{text_from, LinesFit};
 
     ghost Value = { Text };
 
@@ -63,7 +63,8 @@ impl<'a> Cursor<'a> {
 
     /// Takes the next byte, with its line.
     pub fn next(&mut self) -> Option<(u8, u32)>
-        ensures { MatchOption result ((self.old ≡ []) × (self.new ≡ [])) (λ c. self.old ≡ b.at_line c.1 c.0 ∷ self.new) }
+        ensures { MatchOption result ((self.old ≡ []) × (self.new ≡ []))
+            (λ c. self.old ≡ b.at_line c.1 c.0 ∷ self.new) }
     {
         let line = self.line;
         let (byte, rest) = next(self.bytes)?;

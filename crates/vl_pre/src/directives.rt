@@ -2,8 +2,8 @@
 
 ghost use Rattle.std.specs.Prelude.{ℕ, ◌≡◌, ◌++◌, ◌∷◌, [], reverse, MatchOption};
 ghost use Rattle.vl_pre.specs.Directives as d;
-ghost use Rattle.vl_pre.specs.Reading.{Copies, Goes};
-ghost use Rattle.vl_pre.specs.Views.{directive_of, context_of};
+ghost use Rattle.vl_pre.specs.Calls.Reading.{Copies, Goes};
+ghost use Rattle.vl_pre.specs.Calls.Views.{directive_of, context_of};
 
 use crate::bytes::is_white;
 use crate::context::Context;
@@ -24,7 +24,8 @@ pub fn direct(
     at: &mut Cursor,
     context: &mut Context,
 ) -> Result<(), StaticFault>
-    ensures { Goes at.new context.new (d.directive_step (directive_of directive) line (context_of context.old) at.old) result }
+    ensures { Goes at.new context.new
+        (d.directive_step (directive_of directive) line (context_of context.old) at.old) result }
 {
     match directive {
         Directive::Define => define(alloc, line, at, context),
@@ -118,7 +119,8 @@ fn turn(alloc: Global, line: u32, at: &mut Cursor, context: &mut Context) -> Res
 
 // Passes over the rest of the line.
 fn pass(alloc: Global, at: &mut Cursor) -> Result<(), StaticFault>
-    ensures { (line : ℕ) (context : Context) → Goes at.new context (d.directive_step d.passed_over line (context_of context) at.old) result }
+    ensures { (line : ℕ) (context : Context) → Goes at.new context
+        (d.directive_step d.passed_over line (context_of context) at.old) result }
 {
     rest_of_line(alloc, at, false)?;
     Ok(())

@@ -10,8 +10,8 @@
 
 ghost use Rattle.std.specs.Prelude.{◌≡◌, ◌-◌, ◌^◌, ◌<◌, length, Ok, IfOk, IfErr};
 ghost use Rattle.vl_pre.specs.CleanText.{clean_text};
-ghost use Rattle.vl_pre.specs.Laws.{PlainComesThrough, UseReadsAsBody};
-ghost use Rattle.vl_pre.specs.Selects.{SelectsCleanText};
+ghost use Rattle.vl_pre.specs.Laws.Plain.{PlainComesThrough, UseReadsAsBody};
+ghost use Rattle.vl_pre.specs.Laws.Selects.{SelectsCleanText};
 ghost use Rattle.vl_tree.specs.Fault.{HasFault, fault_of};
 
 pub mod bytes;

@@ -3,9 +3,9 @@
 ghost use Rattle.std.specs.Prelude.{◌≡◌, ◌<◌, ◌∷◌, [], length, if◌then◌else◌};
 ghost use Rattle.vl_pre.specs.Bytes as b;
 ghost use Rattle.vl_pre.specs.Pieces as p;
-ghost use Rattle.vl_pre.specs.Reading as r;
-ghost use Rattle.vl_pre.specs.Reading.{Keeps, ReadsPart};
-ghost use Rattle.vl_pre.specs.Views as v;
+ghost use Rattle.vl_pre.specs.Calls.Reading as r;
+ghost use Rattle.vl_pre.specs.Calls.Reading.{Keeps, ReadsPart};
+ghost use Rattle.vl_pre.specs.Calls.Views as v;
 
 use crate::bytes::{ends_line, is_allowed};
 use crate::cursor::{Cursor, skip, skip_block, skip_line};
@@ -83,7 +83,8 @@ fn read_piece(
     continues: bool,
 ) -> Result<(), StaticFault>
     requires { 0 < length at.old }
-    ensures { Keeps body.old.items body.new.items at.new (r.piece_in_line (p.inside (v.head_of first)) continues at.old) result }
+    ensures { Keeps body.old.items body.new.items at.new
+        (r.piece_in_line (p.inside (v.head_of first)) continues at.old) result }
 {
     match first {
         First::LineComment => {
@@ -104,7 +105,8 @@ fn read_piece(
 
 // Appends a byte.
 fn push(body: &mut Vec<u8>, byte: u8, line: u32) -> Result<(), StaticFault>
-    ensures { (rest : b.Text) → Keeps body.old.items body.new.items rest (p.gives (b.at_line line byte ∷ []) rest) result }
+    ensures { (rest : b.Text) → Keeps body.old.items body.new.items rest
+        (p.gives (b.at_line line byte ∷ []) rest) result }
 {
     match body.push(byte) {
         Ok(()) => Ok(()),

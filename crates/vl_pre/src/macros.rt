@@ -3,8 +3,8 @@
 ghost use Rattle.std.specs.Prelude.{◌≡◌, ◌≤◌, ◌<◌, length};
 ghost use Rattle.vl_pre.specs.Bytes as b;
 ghost use Rattle.vl_pre.specs.CleanText as t;
-ghost use Rattle.vl_pre.specs.Reading.{Gives, KnowsBlanks, Notes, Writes, body_piece_at, body_use_at, is_noted};
-ghost use Rattle.vl_pre.specs.Views.{macros_of};
+ghost use Rattle.vl_pre.specs.Calls.Reading.{Gives, KnowsBlanks, Notes, Writes, body_piece_at, body_use_at, is_noted};
+ghost use Rattle.vl_pre.specs.Calls.Views.{macros_of};
 
 use crate::clean::{Clean, write_piece};
 use crate::cursor::{Cursor, name_at, skip};
@@ -94,7 +94,8 @@ fn write_body(
     requires room { length out.old ≤ b.most_clean }
     requires known { KnowsBlanks (macros_of macros.now) line blanks.old }
     ensures known { KnowsBlanks (macros_of macros.now) line blanks.new }
-    ensures gives { Gives out.old out.new (t.whole_body (t.use_of depth (macros_of macros.now) line) line body.now) result }
+    ensures gives { Gives out.old out.new
+        (t.whole_body (t.use_of depth (macros_of macros.now) line) line body.now) result }
 {
     let mut at = Cursor::over_body(body, line);
     while !at.bytes().is_empty() {
@@ -118,7 +119,8 @@ fn write_next(
     requires room { length out.old ≤ b.most_clean }
     requires known { KnowsBlanks (macros_of macros.now) line blanks.old }
     ensures known { KnowsBlanks (macros_of macros.now) line blanks.new }
-    ensures writes { Writes out.old out.new at.new (body_piece_at (t.use_of depth (macros_of macros.now) line) line at.old) result }
+    ensures writes { Writes out.old out.new at.new
+        (body_piece_at (t.use_of depth (macros_of macros.now) line) line at.old) result }
 {
     let first = first_of(at.bytes());
     match first {
@@ -141,7 +143,8 @@ fn write_use(
     requires room { length out.old ≤ b.most_clean }
     requires known { KnowsBlanks (macros_of macros.now) line blanks.old }
     ensures known { KnowsBlanks (macros_of macros.now) line blanks.new }
-    ensures writes { Writes out.old out.new at.new (body_use_at (t.use_of depth (macros_of macros.now) line) line at.old) result }
+    ensures writes { Writes out.old out.new at.new
+        (body_use_at (t.use_of depth (macros_of macros.now) line) line at.old) result }
 {
     skip(at, 1);
     let name = name_at(at);

@@ -3,9 +3,9 @@
 ghost use Rattle.std.specs.Prelude.{◌≡◌, ◌<◌, length, codes, option_map};
 ghost use Rattle.vl_pre.specs.Bytes as b;
 ghost use Rattle.vl_pre.specs.Directives as d;
-ghost use Rattle.vl_pre.specs.Reading.{Finds, Moves};
+ghost use Rattle.vl_pre.specs.Calls.Reading.{Finds, Moves};
 ghost use Rattle.vl_pre.specs.Tables.{entry};
-ghost use Rattle.vl_pre.specs.Views as v;
+ghost use Rattle.vl_pre.specs.Calls.Views as v;
 
 use crate::bytes::{at_line_end, is_white, next};
 use crate::cursor::{Cursor, name_at, skip, skip_block};

@@ -5,7 +5,7 @@ ghost use Rattle.std.specs.List.{prefix_len};
 ghost use Rattle.vl_pre.specs.Bytes as b;
 ghost use Rattle.vl_pre.specs.Pieces as p;
 ghost use Rattle.vl_pre.specs.Directives as d;
-ghost use Rattle.vl_pre.specs.Views.{head_of};
+ghost use Rattle.vl_pre.specs.Calls.Views.{head_of};
 
 use crate::bytes::{at_line_end, is_white, next};
 

@@ -4,8 +4,8 @@ ghost use Rattle.std.specs.Prelude.{◌≤◌, ◌<◌, true, length};
 ghost use Rattle.vl_pre.specs.Bytes as b;
 ghost use Rattle.vl_pre.specs.CleanText as t;
 ghost use Rattle.vl_pre.specs.Directives as d;
-ghost use Rattle.vl_pre.specs.Reading.{Gives, Goes, Steps, skipped_at, skipped_tick_at, step_at, tick_at};
-ghost use Rattle.vl_pre.specs.Views.{context_of};
+ghost use Rattle.vl_pre.specs.Calls.Reading.{Gives, Goes, Steps, skipped_at, skipped_tick_at, step_at, tick_at};
+ghost use Rattle.vl_pre.specs.Calls.Views.{context_of};
 
 use crate::clean::{Clean, write_piece};
 use crate::context::Context;

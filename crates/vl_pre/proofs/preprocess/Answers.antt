@@ -1,7 +1,7 @@
 use Rattle.std.proofs.Common.{length}
 use Rattle.std.proofs.lemmas.Result.{err_from_is_err_and}
 use Rattle.vl_pre.specs.CleanText.{reading_from}
-use Rattle.vl_pre.specs.Reading.{fault_of, context_of}
+use Rattle.vl_pre.specs.Calls.Reading.{fault_of, context_of}
 use Rattle.vl_pre.proofs.ReadingLaws.{whole_reading, all_written, all_ended}
 use Rattle.vl_pre.proofs.preprocess.Goals as goal
 

@@ -1,6 +1,6 @@
 use Rattle.std.proofs.Common.{◌≡◌, ◌≤◌, ◌-◌, length}
 use Rattle.vl_lex.specs.Attributes as a
-use Rattle.vl_lex.specs.Reading.{inside}
+use Rattle.vl_lex.specs.Calls.Reading.{inside}
 use Rattle.vl_lex.proofs.AttributeLaws.{later}
 use Rattle.vl_lex.proofs.attributes.close_length.Given as goal
 

@@ -4,7 +4,7 @@ use Rattle.std.proofs.lemmas.Result.{err_from_is_err_and}
 use Rattle.vl_pre.specs.Bytes.{at_line, is_allowed}
 use Rattle.vl_tree.specs.declared.fault.FaultKind.TheVariants.{BadByte}
 use Rattle.vl_pre.specs.Pieces.{fault, gives, fails, kept}
-use Rattle.vl_pre.specs.Reading.{fault_of}
+use Rattle.vl_pre.specs.Calls.Reading.{fault_of}
 use Rattle.vl_pre.proofs.KeptLaws.{kept_more, kept_bad}
 use Rattle.vl_pre.proofs.WriteLaws.{leads_as, leads_ends, leads_more, leads_stop, ends_at_once}
 use Rattle.vl_pre.proofs.clean.keep.Goals as goal

@@ -3,8 +3,8 @@ use Rattle.std.specs.Prelude.{Option, Some, None}
 use Rattle.std.proofs.lemmas.Result.{err_from_is_err_and}
 use Rattle.vl_pre.specs.Bytes.{Text, at_line, most_clean}
 use Rattle.vl_pre.specs.Pieces.{block_comment, Part, Fault, gives, stops, blank, after_block}
-use Rattle.vl_pre.specs.Views.{head_of}
-use Rattle.vl_pre.specs.Reading.{HasFault, EndsWith, piece_at, fault_of}
+use Rattle.vl_pre.specs.Calls.Views.{head_of}
+use Rattle.vl_pre.specs.Calls.Reading.{HasFault, EndsWith, piece_at, fault_of}
 use Rattle.vl_pre.proofs.LineLaws.{line_comment_blank, block_blank, block_open}
 use Rattle.vl_pre.proofs.WriteLaws.{writes_as, ends_at_once}
 use Rattle.vl_pre.proofs.clean.write_piece.Goals as goal

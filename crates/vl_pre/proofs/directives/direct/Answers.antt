@@ -1,6 +1,6 @@
 use Rattle.std.proofs.Common.{ap}
 use Rattle.vl_pre.specs.Directives.{directive_step}
-use Rattle.vl_pre.specs.Views.{directive_of, context_of}
+use Rattle.vl_pre.specs.Calls.Views.{directive_of, context_of}
 use Rattle.vl_pre.proofs.DirectiveLaws.{goes_as}
 use Rattle.vl_pre.proofs.directives.direct.Goals as goal
 

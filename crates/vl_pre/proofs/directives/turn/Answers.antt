@@ -3,7 +3,7 @@ use Rattle.std.specs.Prelude.{is_some}
 use Rattle.vl_pre.specs.Bytes.{Text}
 use Rattle.vl_pre.specs.Pieces.{and_then}
 use Rattle.vl_pre.specs.Directives.{branch_step, may_turn, elsif_by}
-use Rattle.vl_pre.specs.Reading.{context_of}
+use Rattle.vl_pre.specs.Calls.Reading.{context_of}
 use Rattle.vl_pre.proofs.DirectiveLaws.{goes_as}
 use Rattle.vl_pre.proofs.directives.turn.Goals as goal
 

@@ -4,7 +4,7 @@ use Rattle.std.proofs.lemmas.Result.{err_from_is_err_and}
 use Rattle.vl_pre.specs.Bytes.{at_line, is_allowed}
 use Rattle.vl_tree.specs.declared.fault.FaultKind.TheVariants.{BadByte}
 use Rattle.vl_pre.specs.Pieces.{Part, fault, gives, kept}
-use Rattle.vl_pre.specs.Reading.{fault_of}
+use Rattle.vl_pre.specs.Calls.Reading.{fault_of}
 use Rattle.vl_pre.proofs.KeptLaws.{kept_more, kept_bad}
 use Rattle.vl_pre.proofs.WriteLaws.{collects_more, collects_stop, collects_as, fault_first}
 use Rattle.vl_pre.proofs.lines.keep.Goals as goal

@@ -2,7 +2,7 @@ use Rattle.std.proofs.Common.{rules, ◌≡◌, ◌≤◌, [], true, false, List
 use Rattle.std.proofs.lemmas.Result.{err_from_is_err_and}
 use Rattle.vl_pre.specs.Bytes.{bytes}
 use Rattle.vl_pre.specs.Pieces.{rest_of_line}
-use Rattle.vl_pre.specs.Reading.{fault_of}
+use Rattle.vl_pre.specs.Calls.Reading.{fault_of}
 use Rattle.vl_pre.specs.Bytes.{ends_line}
 use Rattle.vl_pre.proofs.LineLaws.{rest_ended, some_left}
 use Rattle.vl_pre.proofs.StepLaws.{ReadsLine, in_line_shorter, line_reads_more, line_reads_fault}

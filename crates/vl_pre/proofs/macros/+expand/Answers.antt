@@ -9,7 +9,7 @@ use Rattle.vl_pre.proofs.BlankLaws.{noted_from, blank_wrote, wrote_blank, knows_
 use Rattle.vl_tree.specs.declared.fault.FaultKind.TheVariants.{UnknownMacro, MacroDepth, BadDirective}
 use Rattle.vl_pre.specs.Pieces.{Part, fault}
 use Rattle.vl_pre.specs.CleanText.{use_of, whole_body, body_reading}
-use Rattle.vl_pre.specs.Reading.{fault_of, macros_of, IsBlank, Wrote, body_piece_at}
+use Rattle.vl_pre.specs.Calls.Reading.{fault_of, macros_of, IsBlank, Wrote, body_piece_at}
 use Rattle.std.proofs.lemmas.List.{length-map}
 use Rattle.vl_pre.proofs.ReadingLaws.{empty_text}
 use Rattle.vl_pre.proofs.StepLaws.{body_at_length, body_reads_more}

@@ -2,7 +2,7 @@ use Rattle.std.proofs.Common.{◌≡◌, List, ℕ, map, subst, ap, ◌∙◌}
 use Rattle.std.specs.Prelude.{option_map}
 use Rattle.std.specs.Borrow.{Bor}
 use Rattle.vl_pre.specs.Tables.{entry, pairs}
-use Rattle.vl_pre.specs.Views.{directive_of}
+use Rattle.vl_pre.specs.Calls.Views.{directive_of}
 use Rattle.vl_pre.specs.declared.names.Directive as word
 use Rattle.vl_pre.proofs.TableLaws.{entry_map}
 use Rattle.vl_pre.proofs.names.directive_of.Goals as goal

@@ -2,7 +2,7 @@ use Rattle.std.proofs.Common.{rules, ◌≡◌, ◌≤◌, true, false, length, 
 use Rattle.std.proofs.lemmas.Result.{err_from_is_err_and}
 use Rattle.vl_pre.specs.Bytes.{bytes}
 use Rattle.vl_pre.specs.Directives.{at_gap}
-use Rattle.vl_pre.specs.Reading.{fault_of}
+use Rattle.vl_pre.specs.Calls.Reading.{fault_of}
 use Rattle.vl_pre.proofs.LineLaws.{gap_ended}
 use Rattle.vl_pre.proofs.StepLaws.{one_shorter, gap_skips_more, gap_skips_fault}
 use Rattle.vl_pre.proofs.names.skip_gap.Goals as goal

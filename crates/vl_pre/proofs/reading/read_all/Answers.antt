@@ -2,7 +2,7 @@ use Rattle.std.proofs.Common.{rules, ◌≡◌, ◌≤◌, ◌<◌, ◌-◌, [],
 use Rattle.std.proofs.lemmas.Result.{err_from_is_err_and}
 use Rattle.vl_pre.specs.Directives.{is_read}
 use Rattle.vl_pre.specs.CleanText.{reading_from}
-use Rattle.vl_pre.specs.Reading.{fault_of, context_of, step_at}
+use Rattle.vl_pre.specs.Calls.Reading.{fault_of, context_of, step_at}
 use Rattle.vl_pre.proofs.ReadingLaws.{reading_more, reading_ended, finish_gives, empty_text}
 use Rattle.vl_pre.proofs.StepLaws.{step_at_length, reads_more}
 use Rattle.vl_pre.proofs.WriteLaws.{leads_here, leads_stop}

@@ -1,7 +1,7 @@
 use Rattle.std.proofs.Common.{◌≤◌, length}
 use Rattle.vl_pre.specs.Bytes.{most_clean}
 use Rattle.vl_pre.specs.CleanText.{reading_from}
-use Rattle.vl_pre.specs.Reading.{context_of}
+use Rattle.vl_pre.specs.Calls.Reading.{context_of}
 use Rattle.vl_pre.proofs.StepLaws.{Reads}
 use Rattle.vl_pre.proofs.reading.read_all.Given as goal
 

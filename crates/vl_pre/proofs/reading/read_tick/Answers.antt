@@ -4,7 +4,7 @@ use Rattle.vl_tree.specs.declared.fault.FaultKind.TheVariants.{BadDirective}
 use Rattle.vl_pre.specs.Pieces.{fault}
 use Rattle.vl_pre.specs.Directives.{no_name, a_directive, directive_step}
 use Rattle.vl_pre.specs.CleanText.{Step, nothing}
-use Rattle.vl_pre.specs.Views.{directive_of, ticked_of, context_of}
+use Rattle.vl_pre.specs.Calls.Views.{directive_of, ticked_of, context_of}
 use Rattle.vl_pre.proofs.ReadingLaws.{steps_as, nothing_steps, tick_of}
 use Rattle.vl_pre.proofs.WriteLaws.{ends_fails}
 use Rattle.vl_pre.proofs.reading.read_tick.Goals as goal

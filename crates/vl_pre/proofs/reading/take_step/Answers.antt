@@ -1,7 +1,7 @@
 use Rattle.std.proofs.Common.{◌≡◌, false, sym, ap, ◌∙◌}
 use Rattle.vl_pre.specs.Directives.{is_read}
 use Rattle.vl_pre.specs.CleanText.{nothing}
-use Rattle.vl_pre.specs.Reading.{context_of, step_at, skipped_at}
+use Rattle.vl_pre.specs.Calls.Reading.{context_of, step_at, skipped_at}
 use Rattle.vl_pre.proofs.ReadingLaws.{steps_as, nothing_steps, skipped_text}
 use Rattle.vl_pre.proofs.reading.take_step.Goals as goal
 

@@ -24,6 +24,7 @@ use Rattle.vl_lex.specs.declared.strings.Character.{Character}
 use Rattle.vl_lex.specs.declared.strings.Quoted.{Quoted}
 use Rattle.vl_lex.specs.declared.tokens.Found.{Found}
 use Rattle.vl_lex.specs.declared.pieces.Piece as code_piece
+use Rattle.dt_core.specs.declared.limits.TheConstants.{MAX_WIDTH}
 
 -- ---- faults
 
@@ -53,9 +54,9 @@ IsValue v (Some x) = x ≡ v
 
 -- the number where it is a width, 1 to 128, and else whether it is too small or too great
 abbrev pub IsWidth : ℕ → Result ℕ FaultKind → Type 0
-IsWidth v (Ok w) = (w ≡ v) × (1 ≤ w) × (w ≤ 128)
+IsWidth v (Ok w) = (w ≡ v) × (1 ≤ w) × (w ≤ MAX_WIDTH)
 IsWidth v (Err BadNumber) = v ≡ 0
-IsWidth v (Err TooWide) = 129 ≤ v
+IsWidth v (Err TooWide) = MAX_WIDTH < v
 IsWidth v (Err _) = ⊥
 
 -- a format of the code as that of the definition

@@ -5,7 +5,7 @@ use Rattle.std.specs.Cmp.Lexicographic.{pointwise}
 use Rattle.indexmap.specs.IndexMap.{IndexMap, get}
 use Rattle.vl_tree.specs.declared.fault.StaticFault.{StaticFault}
 pub use Rattle.vl_pre.specs.Faults.{fault_of, HasFault}
-pub use Rattle.vl_pre.specs.Views.{macros_of, context_of}
+pub use Rattle.vl_pre.specs.Calls.Views.{macros_of, context_of}
 use Rattle.vl_pre.specs.declared.context.Context as code
 use Rattle.vl_pre.specs.Bytes.{Text, bytes, name_at, most_clean}
 use Rattle.vl_pre.specs.Pieces.{Head, a_backtick, InLine, Fault, Part, gives, piece, after_close, first, after_block, in_line, line_piece}
