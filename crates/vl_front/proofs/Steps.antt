@@ -8,9 +8,26 @@ use Rattle.vl_module.specs.Reading.{IsRefused}
 use Rattle.vl_module.specs.declared.SynFault.{SynFault}
 use Rattle.vl_module.specs.declared.SynFault.TheVariants as tree
 use Rattle.vl_front.specs.Spelled.{spelled}
-use Rattle.vl_front.specs.Faults.{of_tree}
-use Rattle.vl_front.specs.Reads.{Reads}
+use Rattle.vl_tree.specs.Fault.{HasFault, fault_of}
+use Rattle.vl_tree.specs.declared.fault.StaticFault.{StaticFault}
+use Rattle.vl_tree.specs.declared.fault.StaticFault.TheVariants as static
+use Rattle.vl_pre.specs.Bytes.{Text}
+use Rattle.vl_pre.specs.CleanText.{clean_text}
+use Rattle.vl_lex.specs.Tokens.{tokens_of}
+use Rattle.vl_front.specs.Spelled.{by_clean_text}
+use Rattle.vl_front.specs.Calls.Faults.{of_static, of_tree}
+use Rattle.vl_front.specs.Reads.{IsFirst, Reads}
 use Rattle.vl_front.specs.OneModule.{IsOneModule, IsDesign, IsNoDesign}
+
+-- a fault of the clean text is the text's first
+pub clean_first : (text : List ℕ) (e : StaticFault) → HasFault (clean_text text) (fault_of e) → IsFirst (spelled text) (of_static e)
+clean_first text (static.At phase place kind) h = (place.token, ap by_clean_text h)
+clean_first text static.Memory h = tt
+
+-- and so is one of the tokens, where the clean text has none
+pub token_first : (text : List ℕ) (clean : Text) (e : StaticFault) → clean_text text ≡ Ok clean → HasFault (tokens_of clean) (fault_of e) → IsFirst (spelled text) (of_static e)
+token_first text clean (static.At phase place kind) c h = (place.token, ap by_clean_text c ∙ h)
+token_first text clean static.Memory c h = tt
 
 module _ (text : List ℕ) (ts : Tokens) (is : spelled text ≡ Ok ts) where
   -- a text has one list of tokens, so its module derives from that

@@ -1,4 +1,4 @@
 pub mod Spelled
 pub mod OneModule
 pub mod Reads
-pub mod Faults
+pub mod Calls

@@ -1,23 +1,29 @@
 -- What `read_design` answers. This project's own.
-use Rattle.std.specs.Prelude.{◌≡◌, ℕ, List, Result, Ok, Err}
+use Rattle.std.specs.Prelude.{◌≡◌, ℕ, List, Option, Result, Ok, Err}
 use Rattle.flat_ir.specs.FlatRun.{Flat}
+use Rattle.vl_tree.specs.Fault.{Fault}
+use Rattle.vl_tree.specs.declared.fault.FaultKind.{FaultKind}
 use Rattle.vl_tree.specs.Token.{Tokens}
 use Rattle.vl_tree.specs.Tree.{Module}
 use Rattle.vl_meaning.specs.StandsFor.{StandsFor}
-use Rattle.vl_front.specs.Spelled.{Fault, fault, spelled}
+use Rattle.vl_front.specs.Spelled.{spelled}
 use Rattle.vl_front.specs.OneModule.{IsDesign, IsNoDesign}
 use Rattle.vl_front.specs.declared.fault.DesignFault.{DesignFault}
 use Rattle.vl_front.specs.declared.fault.DesignFault.TheVariants as f
 
--- the text has this fault first; or memory is wanted
+-- the first fault has this phase, line and kind
+abbrev pub StandsAt : Result Tokens Fault → ℕ → ℕ → FaultKind → Type 0
+StandsAt r phase line kind = (token : Option ℕ) × (r ≡ Err (record { phase = phase; line = line; token = token; kind = kind }))
+
+-- the text has this fault first; or out of memory
 abbrev pub IsFirst : Result Tokens Fault → DesignFault → Type 0
-IsFirst r (f.At phase line kind) = r ≡ Err (fault phase line kind)
+IsFirst r (f.At phase line kind) = StandsAt r phase line kind
 IsFirst r f.NotYetBuilt = ⊥
 IsFirst r f.Memory = Unit {0}
 
--- the design stands for the one module that the text is; or the text has this fault first; or it is no module's; or memory is wanted
+-- the design stands for the one module that the text is; or the text has this fault first; or it is no module's; or out of memory
 abbrev pub Reads : List ℕ → Result Flat DesignFault → Type 0
 Reads text (Ok flat) = (m : Module) × IsDesign text m × StandsFor flat m
-Reads text (Err (f.At phase line kind)) = spelled text ≡ Err (fault phase line kind)
+Reads text (Err (f.At phase line kind)) = StandsAt (spelled text) phase line kind
 Reads text (Err f.NotYetBuilt) = IsNoDesign text
 Reads text (Err f.Memory) = Unit {0}

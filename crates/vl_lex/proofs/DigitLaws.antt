@@ -10,14 +10,14 @@ use Rattle.vl_lex.specs.declared.digits.Base.{Base}
 
 -- ---- places, read from the left
 
--- the number of these digits, each worth what `f` says, behind those that make n
+-- the number of these digits, each worth what `f` says, after those that make n
 abbrev pub read_on : (ℕ → ℕ) → ℕ → ℕ → List ℕ → ℕ
 read_on f r n [] = n
 read_on f r n (b ∷ bs) = read_on f r (if b == 95 then n else n * r + f b) bs
 
--- the digits' places behind a place of n
-abbrev pub placed_behind : (ℕ → ℕ) → ℕ → ℕ → List ℕ → ℕ
-placed_behind f r n bs = positional r (n ∷ map f (digits_in bs))
+-- the digits' places after a place of n
+abbrev pub placed_after : (ℕ → ℕ) → ℕ → ℕ → List ℕ → ℕ
+placed_after f r n bs = positional r (n ∷ map f (digits_in bs))
 
 -- one place more in front
 one_place : (n r d k v : ℕ) → (n * r + d) * r ^ k + v ≡ n * r ^ suc k + (d * r ^ k + v)
@@ -29,7 +29,7 @@ one_place n r d k v =
     let e : n * (r * r ^ k) ≡ n * r ^ suc k = ap (λ x. n * x) (d' ∙ sym c) in
     omega (arith, a, b, e)
 
-pub read_is : (f : ℕ → ℕ) (r n : ℕ) (bs : List ℕ) → read_on f r n bs ≡ placed_behind f r n bs
+pub read_is : (f : ℕ → ℕ) (r n : ℕ) (bs : List ℕ) → read_on f r n bs ≡ placed_after f r n bs
 read_is f r n [] =
     let p : n * r ^ 0 ≡ n * 1 = ap (λ x. n * x) (pow-zero r) in
     omega (arith, p)
@@ -47,7 +47,7 @@ read_is f r n (b ∷ bs) =
 pub value_is : (r : ℕ) (bs : List ℕ) → read_on digit_value r 0 bs ≡ value_of r bs
 value_is r bs = let e = read_is digit_value r 0 bs in omega (arith, e)
 
--- behind a number stand no lesser ones
+-- after a number stand no lesser ones
 grows : (r n : ℕ) (bs : List ℕ) → 0 < r → n ≤ read_on digit_value r n bs
 grows r n [] h = omega arith
 grows r n (b ∷ bs) h =

@@ -1,4 +1,4 @@
--- A token stays the same with less text behind it, and so has the longest spelling that begins there: its parts.
+-- A token stays the same with less text after it, and so has the longest spelling that begins there: its parts.
 use Rattle.std.proofs.Common.{◌≡◌, ◌≤◌, ◌+◌, ◌-◌, ◌==◌, ◌||◌, ℕ, zero, suc, Bool, true, false, List, [], ◌∷◌, ◌++◌, refl, sym, ap, ◌∙◌, arith, take, drop, length, if◌then◌else◌, append_assoc}
 use Rattle.std.specs.Prelude.{Option, Some, None, nat_eq}
 use Rattle.std.specs.List.{prefix_len, starts_with}
@@ -16,7 +16,7 @@ take-take-le (suc n) zero xs h = absurd (omega (arith, h))
 take-take-le (suc n) (suc m) [] h = refl
 take-take-le (suc n) (suc m) (x ∷ xs) h = ap (λ y. x ∷ y) (take-take-le n m xs (omega (arith, h)))
 
--- what is left behind the first n of m
+-- what is left after the first n of m
 pub drop-take-le : (n m : ℕ) (xs : List ℕ) → n ≤ m → drop n (take m xs) ≡ take (m - n) (drop n xs)
 drop-take-le n m xs h =
     let q : m ≡ n + (m - n) = omega (arith, h) in
@@ -70,7 +70,7 @@ goes_on-take (suc m) (x ∷ xs) e = e
 
 -- ---- what stands before digits
 
--- with more behind it, a format is the same
+-- with more after it, a format is the same
 base_more : (g : Bool) (n j : ℕ) (bs : List ℕ) (f : Format) → format_base g n (take j bs) ≡ Some f → format_base g n bs ≡ Some f
 base_more g n zero bs f e = absurd cc
 base_more g n (suc j) [] f e = absurd cc
@@ -95,7 +95,7 @@ format_more zero bs f e = absurd cc
 format_more (suc j) [] f e = absurd cc
 format_more (suc j) (b ∷ bs) f e = format_more_by (b == 39) j bs f e
 
--- where none stands, none stands with less behind it
+-- where none stands, none stands with less after it
 none_by : (j : ℕ) (bs : List ℕ) (o : Option Format) → format_at (take j bs) ≡ o → format_at bs ≡ None → format_at (take j bs) ≡ None
 none_by j bs None e h = e
 none_by j bs (Some f) e h = let g = format_more j bs f e in absurd cc
@@ -103,7 +103,7 @@ none_by j bs (Some f) e h = let g = format_more j bs f e in absurd cc
 pub format_none : (j : ℕ) (bs : List ℕ) → format_at bs ≡ None → format_at (take j bs) ≡ None
 format_none j bs h = none_by j bs (format_at (take j bs)) refl h
 
--- a format is the same with less behind it
+-- a format is the same with less after it
 used_by : (g : Bool) (n : ℕ) (o : Option Base) (f : Format) → format_by g n o ≡ Some f → f.used ≡ n
 used_by g n None f e = absurd cc
 used_by g n (Some base) f e = let h : (let x : Format = record { signed = g; base = base; used = n } in x) ≡ f = cc in sym (ap (λ x. x.used) h)

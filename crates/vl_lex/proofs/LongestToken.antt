@@ -1,18 +1,22 @@
--- A token stays the same with less text behind it, and so has the longest spelling that begins there.
+-- A token stays the same with less text after it, and so has the longest spelling that begins there.
 use Rattle.std.proofs.Common.{◌≡◌, ◌≤◌, ◌<◌, ◌+◌, ◌-◌, ◌==◌, ◌||◌, ℕ, zero, suc, Bool, true, false, List, [], ◌∷◌, refl, sym, ap, subst, ◌∙◌, arith, take, drop, length, length-drop, if◌then◌else◌}
 use Rattle.std.specs.Prelude.{Option, Some, None, Result, Ok, Err, nat_eq, nat_le, ◌^◌}
 use Rattle.std.specs.List.{prefix_len, starts_with}
 use Rattle.std.proofs.lemmas.List.Folds.{length-prefix_len}
+use Rattle.vl_pre.specs.Tables.{entry}
 use Rattle.vl_tree.specs.declared.token.Mark.{Mark}
 use Rattle.vl_tree.specs.Token.{Kind, Literal, name, system, number, str, mark}
+use Rattle.vl_pre.specs.Bytes.{ends_line}
 use Rattle.vl_pre.specs.Bytes.{begins, name_length}
-use Rattle.vl_lex.specs.Faults.{FaultKind, bad_token, bad_number, open_string, unless}
-use Rattle.vl_lex.specs.Words.{entry, marks, systems}
+use Rattle.vl_tree.specs.declared.fault.FaultKind.{FaultKind}
+use Rattle.vl_tree.specs.declared.fault.FaultKind.TheVariants.{BadToken, BadNumber, OpenString}
+use Rattle.vl_lex.specs.Faults.{unless}
+use Rattle.vl_lex.specs.Words.{marks, systems}
 use Rattle.vl_lex.specs.Digits.{value_of}
 use Rattle.vl_lex.specs.Numbers.{Counted, Format, is_in_decimal, digits_length, goes_on, plain_literal, plain_number, literal_of_size, counted, based_number, number_by, number_at, format_at}
 use Rattle.vl_lex.specs.Strings as s
 use Rattle.vl_lex.specs.Tokens.{Spelled, short, word_kind, name_token, is_in_escaped, escaped_token, or_other, system_token, number_token, string_token, mark_token, Class, of_name, of_number, of_system, of_escaped, of_string, of_mark, class_of, token_of, token_at}
-use Rattle.vl_lex.specs.Spelled.{TakesLongest}
+use Rattle.vl_lex.specs.Laws.Spelled.{TakesLongest}
 use Rattle.vl_lex.proofs.PieceLaws.{one_length, unless_ok, short_ok, some_word_ok, counted_ok, token_some}
 use Rattle.vl_lex.proofs.LongestLaws.{take-take-le, drop-take-le, prefix_len-take, name_length-take, digits_length-take, goes_on-take, format_none, format_less, begins_less, begins_not}
 
@@ -29,7 +33,7 @@ name_stable m n bs k e h =
 system_stable : (m n : ℕ) (bs : List ℕ) (k : Kind) → system_token bs ≡ Ok (k, n) → n ≤ suc m → system_token (take m bs) ≡ Ok (k, n)
 system_stable m n bs k e h =
     let c : ℕ = name_length bs in
-    let F : ℕ → List ℕ → Spelled = λ x w. unless (x == 0) bad_token (short x (system (or_other (entry systems w))) (x + 1)) in
+    let F : ℕ → List ℕ → Spelled = λ x w. unless (x == 0) BadToken (short x (system (or_other (entry systems w))) (x + 1)) in
     let l : c + 1 ≡ n = some_word_ok (c == 0) c (system (or_other (entry systems (take c bs)))) c k n e in
     let a : name_length (take m bs) ≡ c = name_length-take m bs (omega (arith, l, h)) in
     let t : take c (take m bs) ≡ take c bs = take-take-le c m bs (omega (arith, l, h)) in
@@ -38,7 +42,7 @@ system_stable m n bs k e h =
 escaped_stable : (m n : ℕ) (bs : List ℕ) (k : Kind) → escaped_token bs ≡ Ok (k, n) → n ≤ suc m → escaped_token (take m bs) ≡ Ok (k, n)
 escaped_stable m n bs k e h =
     let c : ℕ = prefix_len is_in_escaped bs in
-    let F : ℕ → List ℕ → Spelled = λ x w. unless (x == 0) bad_token (short x (name w) (x + 1)) in
+    let F : ℕ → List ℕ → Spelled = λ x w. unless (x == 0) BadToken (short x (name w) (x + 1)) in
     let l : c + 1 ≡ n = some_word_ok (c == 0) c (name (take c bs)) c k n e in
     let a : prefix_len is_in_escaped (take m bs) ≡ c = prefix_len-take is_in_escaped m bs (omega (arith, l, h)) in
     let t : take c (take m bs) ≡ take c bs = take-take-le c m bs (omega (arith, l, h)) in
@@ -49,7 +53,7 @@ escaped_stable m n bs k e h =
 based_length : (size : List ℕ) (f : Format) (bs : List ℕ) (l : Literal) (n : ℕ) → based_number size f bs ≡ Ok (l, n) → n ≡ length size + f.used + digits_length f.base bs
 based_length size f bs l n e =
     let c : ℕ = digits_length f.base bs in
-    counted_ok _ n _ l (unless_ok (c == 0 || goes_on (drop c bs)) bad_number (counted (length size + f.used + c) (literal_of_size size f.signed f.base (take c bs))) (l, n) e).1
+    counted_ok _ n _ l (unless_ok (c == 0 || goes_on (drop c bs)) BadNumber (counted (length size + f.used + c) (literal_of_size size f.signed f.base (take c bs))) (l, n) e).1
 
 or_second : (x y : Bool) → (x || y) ≡ false → y ≡ false
 or_second true y e = absurd cc
@@ -62,9 +66,9 @@ or_first false y e = refl
 based_stable : (size : List ℕ) (f : Format) (bs : List ℕ) (i : ℕ) (l : Literal) (n : ℕ) → based_number size f bs ≡ Ok (l, n) → n ≤ length size + f.used + i → based_number size f (take i bs) ≡ Ok (l, n)
 based_stable size f bs i l n e h =
     let c : ℕ = digits_length f.base bs in
-    let F : ℕ → Bool → List ℕ → Counted = λ x g w. unless (x == 0 || g) bad_number (counted (length size + f.used + x) (literal_of_size size f.signed f.base w)) in
+    let F : ℕ → Bool → List ℕ → Counted = λ x g w. unless (x == 0 || g) BadNumber (counted (length size + f.used + x) (literal_of_size size f.signed f.base w)) in
     let q = based_length size f bs l n e in
-    let u = unless_ok (c == 0 || goes_on (drop c bs)) bad_number (counted (length size + f.used + c) (literal_of_size size f.signed f.base (take c bs))) (l, n) e in
+    let u = unless_ok (c == 0 || goes_on (drop c bs)) BadNumber (counted (length size + f.used + c) (literal_of_size size f.signed f.base (take c bs))) (l, n) e in
     let g : goes_on (drop c bs) ≡ false = or_second (c == 0) (goes_on (drop c bs)) u.0 in
     let w : c ≤ i = omega (arith, q, h) in
     let a : digits_length f.base (take i bs) ≡ c = digits_length-take f.base i bs w in
@@ -76,13 +80,13 @@ plain_ok : (digits rest : List ℕ) (l : Literal) (n : ℕ) → plain_number dig
 plain_ok digits rest l n e =
     let v : ℕ = value_of 10 digits in
     let r : Counted = Ok (plain_literal v, length digits) in
-    let u = unless_ok (goes_on rest || nat_le (2 ^ 32) v) bad_number r (l, n) e in
+    let u = unless_ok (goes_on rest || nat_le (2 ^ 32) v) BadNumber r (l, n) e in
     (or_first (goes_on rest) (nat_le (2 ^ 32) v) u.0, one_length (plain_literal v) l (length digits) n r refl u.1)
 
 plain_stable : (digits rest : List ℕ) (j : ℕ) (l : Literal) (n : ℕ) → plain_number digits rest ≡ Ok (l, n) → plain_number digits (take j rest) ≡ Ok (l, n)
 plain_stable digits rest j l n e =
     let v : ℕ = value_of 10 digits in
-    let F : Bool → Counted = λ g. unless (g || nat_le (2 ^ 32) v) bad_number (Ok (plain_literal v, length digits)) in
+    let F : Bool → Counted = λ g. unless (g || nat_le (2 ^ 32) v) BadNumber (Ok (plain_literal v, length digits)) in
     let g = (plain_ok digits rest l n e).0 in
     ap F (goes_on-take j rest g ∙ sym g) ∙ e
 
@@ -131,7 +135,7 @@ abbrev character_size : Option (ℕ × ℕ) → ℕ
 character_size None = 1
 character_size (Some p) = p.1
 
-line_less : (m b : ℕ) (bs : List ℕ) → s.ends_line (b ∷ bs) ≡ false → s.ends_line (b ∷ take m bs) ≡ false
+line_less : (m b : ℕ) (bs : List ℕ) → ends_line (b ∷ bs) ≡ false → ends_line (b ∷ take m bs) ≡ false
 line_less m b bs e =
     let x = begins_not (suc m) (b ∷ bs) (10 ∷ []) (or_first (begins (10 ∷ []) (b ∷ bs)) (begins (13 ∷ 10 ∷ []) (b ∷ bs)) e) in
     let y = begins_not (suc m) (b ∷ bs) (13 ∷ 10 ∷ []) (or_second (begins (10 ∷ []) (b ∷ bs)) (begins (13 ∷ 10 ∷ []) (b ∷ bs)) e) in
@@ -185,48 +189,49 @@ escape_stable m [] p e h = absurd cc
 escape_stable zero (b ∷ bs) p e h = let g = escape_some (b == 110) (b == 116) (b == 92 || b == 34) b bs p e in absurd (omega (arith, g, h))
 escape_stable (suc m) (b ∷ bs) p e h = escape_by (b == 110) (b == 116) (b == 92 || b == 34) b m bs p e h
 
-escaped_keep : (o t : Option (ℕ × ℕ)) (r : Option (ℕ × ℕ)) (m : ℕ) → ((p : ℕ × ℕ) → o ≡ Some p → p.1 ≤ m → t ≡ Some p) → s.escaped o ≡ Ok r → character_size r ≤ suc m → s.escaped t ≡ Ok r
-escaped_keep None t r m f e h = absurd cc
-escaped_keep (Some p) t r m f e h =
-    let x : Some (p.0, p.1 + 1) ≡ r = cc in
-    let y : p.1 + 1 ≡ character_size r = ap character_size x in
-    ap s.escaped (f p refl (omega (arith, y, h))) ∙ e
+escaped_keep : (x y : FaultKind) (o t : Option (ℕ × ℕ)) (r : Option (ℕ × ℕ)) (m : ℕ) → ((p : ℕ × ℕ) → o ≡ Some p → p.1 ≤ m → t ≡ Some p) → s.escaped x o ≡ Ok r → character_size r ≤ suc m
+    → s.escaped y t ≡ Ok r
+escaped_keep x y None t r m f e h = absurd cc
+escaped_keep x y (Some p) t r m f e h =
+    let i : Some (p.0, p.1 + 1) ≡ r = cc in
+    let j : p.1 + 1 ≡ character_size r = ap character_size i in
+    ap (s.escaped y) (f p refl (omega (arith, j, h))) ∙ e
 
-character_by : (x y z : Bool) (b m : ℕ) (bs : List ℕ) (r : Option (ℕ × ℕ)) → (if x then Err open_string else if y then Ok None else if z then s.escaped (s.escape bs) else Ok (Some (b, 1))) ≡ Ok r
-    → character_size r ≤ suc m → (if y then Ok None else if z then s.escaped (s.escape (take m bs)) else Ok (Some (b, 1))) ≡ Ok r
+character_by : (x y z : Bool) (b m : ℕ) (bs : List ℕ) (r : Option (ℕ × ℕ)) → (if x then Err OpenString else if y then Ok None else if z then s.escaped (s.no_escape bs) (s.escape bs) else Ok (Some (b, 1))) ≡ Ok r
+    → character_size r ≤ suc m → (if y then Ok None else if z then s.escaped (s.no_escape (take m bs)) (s.escape (take m bs)) else Ok (Some (b, 1))) ≡ Ok r
 character_by true y z b m bs r e h = absurd cc
 character_by false true z b m bs r e h = e
-character_by false false true b m bs r e h = escaped_keep (s.escape bs) (s.escape (take m bs)) r m (escape_stable m bs) e h
+character_by false false true b m bs r e h = escaped_keep (s.no_escape bs) (s.no_escape (take m bs)) (s.escape bs) (s.escape (take m bs)) r m (escape_stable m bs) e h
 character_by false false false b m bs r e h = e
 
-no_end : (x y z : Bool) (b : ℕ) (bs : List ℕ) (r : Option (ℕ × ℕ)) → (if x then Err open_string else if y then Ok None else if z then s.escaped (s.escape bs) else Ok (Some (b, 1))) ≡ Ok r → x ≡ false
+no_end : (x y z : Bool) (b : ℕ) (bs : List ℕ) (r : Option (ℕ × ℕ)) → (if x then Err OpenString else if y then Ok None else if z then s.escaped (s.no_escape bs) (s.escape bs) else Ok (Some (b, 1))) ≡ Ok r → x ≡ false
 no_end true y z b bs r e = absurd cc
 no_end false y z b bs r e = refl
 
 character_stable : (m b : ℕ) (bs : List ℕ) (r : Option (ℕ × ℕ)) → s.character_at (b ∷ bs) ≡ Ok r → character_size r ≤ suc m → s.character_at (b ∷ take m bs) ≡ Ok r
 character_stable m b bs r e h =
-    let x : s.ends_line (b ∷ bs) ≡ false = no_end (s.ends_line (b ∷ bs)) (b == 34) (b == 92) b bs r e in
-    let x' : s.ends_line (b ∷ take m bs) ≡ false = line_less m b bs x in
-    ap (λ y. if y then Err open_string else if b == 34 then Ok None else if b == 92 then s.escaped (s.escape (take m bs)) else Ok (Some (b, 1))) x'
-    ∙ character_by (s.ends_line (b ∷ bs)) (b == 34) (b == 92) b m bs r e h
+    let x : ends_line (b ∷ bs) ≡ false = no_end (ends_line (b ∷ bs)) (b == 34) (b == 92) b bs r e in
+    let x' : ends_line (b ∷ take m bs) ≡ false = line_less m b bs x in
+    ap (λ y. if y then Err OpenString else if b == 34 then Ok None else if b == 92 then s.escaped (s.no_escape (take m bs)) (s.escape (take m bs)) else Ok (Some (b, 1))) x'
+    ∙ character_by (ends_line (b ∷ bs)) (b == 34) (b == 92) b m bs r e h
 
 -- a character has a byte
-escaped_some : (o : Option (ℕ × ℕ)) (r : Option (ℕ × ℕ)) → s.escaped o ≡ Ok r → 1 ≤ character_size r
-escaped_some None r e = absurd cc
-escaped_some (Some p) r e = let x : Some (p.0, p.1 + 1) ≡ r = cc in let y : p.1 + 1 ≡ character_size r = ap character_size x in omega (arith, y)
+escaped_some : (x : FaultKind) (o : Option (ℕ × ℕ)) (r : Option (ℕ × ℕ)) → s.escaped x o ≡ Ok r → 1 ≤ character_size r
+escaped_some y None r e = absurd cc
+escaped_some y (Some p) r e = let x : Some (p.0, p.1 + 1) ≡ r = cc in let j : p.1 + 1 ≡ character_size r = ap character_size x in omega (arith, j)
 
 ok_size : (o r : Option (ℕ × ℕ)) → (let x : Result (Option (ℕ × ℕ)) FaultKind = Ok o in x) ≡ Ok r → 1 ≤ character_size o → 1 ≤ character_size r
 ok_size o r e h = let x : o ≡ r = cc in subst (λ y. 1 ≤ character_size y) x h
 
-character_some_by : (x y z : Bool) (b : ℕ) (bs : List ℕ) (r : Option (ℕ × ℕ)) → (if x then Err open_string else if y then Ok None else if z then s.escaped (s.escape bs) else Ok (Some (b, 1))) ≡ Ok r → 1 ≤ character_size r
+character_some_by : (x y z : Bool) (b : ℕ) (bs : List ℕ) (r : Option (ℕ × ℕ)) → (if x then Err OpenString else if y then Ok None else if z then s.escaped (s.no_escape bs) (s.escape bs) else Ok (Some (b, 1))) ≡ Ok r → 1 ≤ character_size r
 character_some_by true y z b bs r e = absurd cc
 character_some_by false true z b bs r e = ok_size None r e (omega arith)
-character_some_by false false true b bs r e = escaped_some (s.escape bs) r e
+character_some_by false false true b bs r e = escaped_some (s.no_escape bs) (s.escape bs) r e
 character_some_by false false false b bs r e = ok_size (Some (b, 1)) r e (omega arith)
 
 character_some : (bs : List ℕ) (r : Option (ℕ × ℕ)) → s.character_at bs ≡ Ok r → 1 ≤ character_size r
 character_some [] r e = absurd cc
-character_some (b ∷ bs) r e = character_some_by (s.ends_line (b ∷ bs)) (b == 34) (b == 92) b bs r e
+character_some (b ∷ bs) r e = character_some_by (ends_line (b ∷ bs)) (b == 34) (b == 92) b bs r e
 
 longer_ok : (b c : ℕ) (r : Result (List ℕ × ℕ) FaultKind) (a : List ℕ) (m : ℕ) → s.longer b c r ≡ Ok (a, m) → (a' : List ℕ) × (k : ℕ) × (r ≡ Ok (a', k)) × (c + k ≡ m)
 longer_ok b c (Ok x) a m h = (x.0, x.1, refl, one_length _ a _ m _ refl h)

@@ -8,11 +8,15 @@ use Rattle.vl_tree.specs.declared.token.Token as code
 use Rattle.vl_tree.specs.declared.token.TokenKind as code_kind
 use Rattle.vl_tree.specs.Token.{Kind, Token, token, Tokens, coded, coded_kind, all_coded}
 use Rattle.vl_pre.specs.Bytes.{Placed, Text, at_line, bytes, lines, joined}
-use Rattle.vl_lex.specs.Faults.{FaultKind, bad_token, bad_number, too_wide, open_string, too_many_tokens}
+use Rattle.vl_tree.specs.declared.fault.FaultKind.{FaultKind}
+use Rattle.vl_tree.specs.declared.fault.FaultKind.TheVariants.{TooManyTokens}
 use Rattle.vl_lex.specs.Tokens.{gap, spelt, piece_at, Lexed, ahead, stuck, lexed, lexed_from, most_tokens, answer, at_most, tokens_of}
-use Rattle.vl_lex.specs.Reading.{piece_of, IsFault, IsFirst, Takes, Steps, fault}
-use Rattle.vl_lex.specs.declared.faults.LexFault.{LexFault}
-use Rattle.vl_lex.specs.declared.faults.LexFault.TheVariants as f
+use Rattle.vl_lex.specs.Faults.{fault}
+use Rattle.vl_lex.specs.Calls.Reading.{piece_of, IsFault, Takes, Steps}
+use Rattle.vl_tree.specs.Fault.{HasFault, fault_of}
+use Rattle.vl_tree.specs.declared.fault.StaticFault.{StaticFault}
+use Rattle.vl_tree.specs.declared.fault.StaticFault.TheVariants as f
+use Rattle.vl_lex.specs.declared.faults.Wrong.TheVariants as wrong
 
 -- ---- what the loop keeps
 
@@ -68,7 +72,7 @@ token_read l items c ts kind used h some s =
     let fits : length (drop used (c ∷ ts)) ≤ o.0 = let i = length-drop used (c ∷ ts) in let j = o.1 in omega (arith, i, j, some) in
     (o.0, fits, g)
 
--- what is left of the tokens behind a piece, and that there are no more than may be
+-- what is left of the tokens after a piece, and that there are no more than may be
 abbrev Read : Lexed → List code.Token → Text → Type 0
 Read l items ts = SoFar l items ts × (length items ≤ most_tokens)
 
@@ -115,7 +119,7 @@ one_more ts more t e = ap (λ n. drop n (ts ++ (t ∷ more))) (sym e) ∙ drop-a
 
 -- with one token more than there may be the text has that fault
 too_many : (text : Text) (items : List code.Token) (c : Placed) (ts : Text) (k : Kind) (used : ℕ) → piece_at (bytes (c ∷ ts)) ≡ Ok (spelt k used) → most_tokens ≤ length items
-    → Read (lexed text) items (c ∷ ts) → tokens_of text ≡ Err (fault too_many_tokens c.line)
+    → Read (lexed text) items (c ∷ ts) → tokens_of text ≡ Err (fault TooManyTokens c.line)
 too_many text items c ts k used h full r =
     let o = next_step (lexed text) items c ts r.0 in
     let t : Token = token c.line k in
@@ -126,27 +130,21 @@ too_many text items c ts k used h full r =
     let d : drop most_tokens (all_coded items ++ (t ∷ more.tokens)) ≡ t ∷ more.tokens = one_more (all_coded items) more.tokens t n in
     ap (at_most most_tokens) g ∙ ap (λ x. answer x more.fault (all_coded items ++ (t ∷ more.tokens))) d
 
--- the same fault on a line that is named otherwise
-on_line : (text : Text) (k : FaultKind) (line l : ℕ) → l ≡ line → tokens_of text ≡ Err (fault k line) → tokens_of text ≡ Err (fault k l)
-on_line text k line l e h = h ∙ ap (λ x. Err (fault k x)) (sym e)
+none_stands : (text : Text) (items : List code.Token) (c : Placed) (ts : Text) (e : StaticFault) → IsFault (piece_at (bytes (c ∷ ts))) c.line e → Read (lexed text) items (c ∷ ts) → HasFault (tokens_of text) (fault_of e)
+none_stands text items c ts e (wrong.Bad k, is, h) r =
+    let P : StaticFault → Type 0 = λ x. HasFault (tokens_of text) (fault_of x) in
+    subst P (sym is) (fault_at text items c ts k h r)
+none_stands text items c ts e (wrong.Memory, is, h) r =
+    let P : StaticFault → Type 0 = λ x. HasFault (tokens_of text) (fault_of x) in
+    subst P (sym is) tt
 
-none_stands : (text : Text) (items : List code.Token) (c : Placed) (ts : Text) (e : LexFault) → IsFault (piece_at (bytes (c ∷ ts))) c.line e → Read (lexed text) items (c ∷ ts) → IsFirst (tokens_of text) e
-none_stands text items c ts (f.BadToken l) h r = on_line text bad_token c.line l h.1 (fault_at text items c ts bad_token h.0 r)
-none_stands text items c ts (f.BadNumber l) h r = on_line text bad_number c.line l h.1 (fault_at text items c ts bad_number h.0 r)
-none_stands text items c ts (f.TooWide l) h r = on_line text too_wide c.line l h.1 (fault_at text items c ts too_wide h.0 r)
-none_stands text items c ts (f.OpenString l) h r = on_line text open_string c.line l h.1 (fault_at text items c ts open_string h.0 r)
-none_stands text items c ts (f.TooManyTokens l) h r = absurd h
-none_stands text items c ts f.Memory h r = tt
-
-none_taken : (text : Text) (items new : List code.Token) (c : Placed) (ts : Text) (k : Option code_kind.TokenKind) (n : ℕ) (e : LexFault) → piece_at (bytes (c ∷ ts)) ≡ Ok (piece_of k n)
-    → Takes items c.line k n new (Err e) → Read (lexed text) items (c ∷ ts) → IsFirst (tokens_of text) e
+none_taken : (text : Text) (items new : List code.Token) (c : Placed) (ts : Text) (k : Option code_kind.TokenKind) (n : ℕ) (e : StaticFault) → piece_at (bytes (c ∷ ts)) ≡ Ok (piece_of k n)
+    → Takes items c.line k n new (Err e) → Read (lexed text) items (c ∷ ts) → HasFault (tokens_of text) (fault_of e)
 none_taken text items new c ts None n e h t r = absurd t
-none_taken text items new c ts (Some k) n (f.TooManyTokens l) h t r = on_line text too_many_tokens c.line l t.1 (too_many text items c ts (coded_kind k) n h t.0 r)
 none_taken text items new c ts (Some k) n f.Memory h t r = tt
-none_taken text items new c ts (Some k) n (f.BadToken l) h t r = absurd t
-none_taken text items new c ts (Some k) n (f.BadNumber l) h t r = absurd t
-none_taken text items new c ts (Some k) n (f.TooWide l) h t r = absurd t
-none_taken text items new c ts (Some k) n (f.OpenString l) h t r = absurd t
+none_taken text items new c ts (Some k) n (f.At phase place kind) h t r =
+    let P : StaticFault → Type 0 = λ x. HasFault (tokens_of text) (fault_of x) in
+    subst P (sym t.1) (too_many text items c ts (coded_kind k) n h t.0 r)
 
 -- ---- places of a text
 
@@ -164,7 +162,7 @@ place text at h =
 module _ (text : Text) (old new : List code.Token) (at line : ℕ) (bs : List ℕ) (here : at < length text) (on : line ≡ get_or (lines text) at 0) (rest : bs ≡ drop at (bytes text))
     (r : Read (lexed text) old (drop at text)) where
   -- the piece at this place
-  same : {m : Result ℕ LexFault} → Steps old line (piece_at bs) new m → (p : Place text at) → Steps old p.0.line (piece_at (bytes (p.0 ∷ p.1))) new m
+  same : {m : Result ℕ StaticFault} → Steps old line (piece_at bs) new m → (p : Place text at) → Steps old p.0.line (piece_at (bytes (p.0 ∷ p.1))) new m
   same {m} s p =
       let l : line ≡ p.0.line = on ∙ p.3 in
       let b : bs ≡ bytes (p.0 ∷ p.1) = rest ∙ p.4 in
@@ -180,7 +178,7 @@ module _ (text : Text) (old new : List code.Token) (at line : ℕ) (bs : List �
         | inr t ↦ absurd t
       ]
 
-  pub next_fails : (e : LexFault) → Steps old line (piece_at bs) new (Err e) → IsFirst (tokens_of text) e
+  pub next_fails : (e : StaticFault) → Steps old line (piece_at bs) new (Err e) → HasFault (tokens_of text) (fault_of e)
   next_fails e s =
       let p = place text at here in
       let r' : Read (lexed text) old (p.0 ∷ p.1) = subst (λ x. Read (lexed text) old x) p.2 r in
@@ -189,7 +187,7 @@ module _ (text : Text) (old new : List code.Token) (at line : ℕ) (bs : List �
         | inr t ↦ none_stands text old p.0 p.1 e t r'
       ]
 
--- what stands behind a place and is no longer than the rest ends within the text
+-- what stands after a place and is no longer than the rest ends within the text
 pub ends_within : (text : Text) (at used : ℕ) (bs : List ℕ) → bs ≡ drop at (bytes text) → used ≤ length bs → at ≤ length text → at + used ≤ length text
 ends_within text at used bs e u h =
     let a = ap length e in

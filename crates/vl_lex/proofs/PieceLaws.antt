@@ -2,17 +2,20 @@
 use Rattle.std.proofs.Common.{◌≡◌, ◌+◌, ◌<◌, ◌==◌, ◌&&◌, ◌||◌, ◌^◌, not, ℕ, zero, suc, Bool, true, false, List, [], ◌∷◌, refl, ap, arith, length, take, drop, if◌then◌else◌}
 use Rattle.std.specs.Prelude.{Option, Some, None, Result, Ok, Err, nat_eq, nat_lt, nat_le}
 use Rattle.std.specs.List.{starts_with, prefix_len}
+use Rattle.vl_pre.specs.Tables.{entry}
 use Rattle.vl_tree.specs.declared.token.Mark.{Mark}
 use Rattle.vl_tree.specs.Token.{Kind, Literal, name, system}
 use Rattle.vl_pre.specs.Bytes.{begins_name, is_digit, is_in_name, name_length}
-use Rattle.vl_lex.specs.Faults.{FaultKind, bad_token, bad_number, unless}
-use Rattle.vl_lex.specs.Words.{entry, marks, systems}
+use Rattle.vl_tree.specs.declared.fault.FaultKind.{FaultKind}
+use Rattle.vl_tree.specs.declared.fault.FaultKind.TheVariants.{BadToken, BadNumber}
+use Rattle.vl_lex.specs.Faults.{unless}
+use Rattle.vl_lex.specs.Words.{marks, systems}
 use Rattle.vl_lex.specs.Digits.{value_of}
 use Rattle.vl_lex.specs.Numbers.{Counted, Format, is_in_decimal, format_at, counted, digits_length, goes_on, literal_of_size, number_by, number_at, plain_literal}
 use Rattle.vl_lex.specs.Strings.{string_at}
 use Rattle.vl_lex.specs.Attributes.{close_from}
 use Rattle.vl_lex.specs.Tokens.{Spelled, or_other, is_in_escaped, most_name, short, word_kind, name_token, number_token, string_token, mark_token, Class, of_name, of_number, of_system, of_escaped, of_string, of_mark, class_of, token_of, token_at, Piece, gap, spelt, Lead, white, attribute, spelling, lead_of, attribute_piece, token_piece, piece_by, piece_at}
-use Rattle.vl_lex.specs.Spelled.{size_of}
+use Rattle.vl_lex.specs.Laws.Spelled.{size_of}
 
 -- an answer has one length
 pub one_length : {X : Type 0} → (x y : X) (m n : ℕ) (r : Result (X × ℕ) FaultKind) → r ≡ Ok (x, m) → r ≡ Ok (y, n) → m ≡ n
@@ -54,7 +57,7 @@ unless_ok true k r x h = absurd cc
 unless_ok false k r x h = (refl, h)
 
 pub short_ok : (n : ℕ) (a : Kind) (used : ℕ) (k : Kind) (m : ℕ) → short n a used ≡ Ok (k, m) → used ≡ m
-short_ok n a used k m h = one_length a k used m (Ok (a, used)) refl (unless_ok (nat_lt most_name n) bad_token (Ok (a, used)) (k, m) h).1
+short_ok n a used k m h = one_length a k used m (Ok (a, used)) refl (unless_ok (nat_lt most_name n) BadToken (Ok (a, used)) (k, m) h).1
 
 name_some : (b : ℕ) (bs : List ℕ) (k : Kind) (m : ℕ) → begins_name b ≡ true → name_token (b ∷ bs) ≡ Ok (k, m) → 0 < m
 name_some b bs k m x h =
@@ -63,10 +66,10 @@ name_some b bs k m x h =
     let i : n ≡ prefix_len is_in_name bs + 1 = rw x refl in
     omega (arith, e, i)
 
-pub some_word_ok : (x : Bool) (n : ℕ) (a : Kind) (used : ℕ) (k : Kind) (m : ℕ) → unless x bad_token (short n a (used + 1)) ≡ Ok (k, m) → used + 1 ≡ m
-some_word_ok x n a used k m h = short_ok n a (used + 1) k m (unless_ok x bad_token (short n a (used + 1)) (k, m) h).1
+pub some_word_ok : (x : Bool) (n : ℕ) (a : Kind) (used : ℕ) (k : Kind) (m : ℕ) → unless x BadToken (short n a (used + 1)) ≡ Ok (k, m) → used + 1 ≡ m
+some_word_ok x n a used k m h = short_ok n a (used + 1) k m (unless_ok x BadToken (short n a (used + 1)) (k, m) h).1
 
-some_word : (x : Bool) (n : ℕ) (a : Kind) (used : ℕ) (k : Kind) (m : ℕ) → unless x bad_token (short n a (used + 1)) ≡ Ok (k, m) → 0 < m
+some_word : (x : Bool) (n : ℕ) (a : Kind) (used : ℕ) (k : Kind) (m : ℕ) → unless x BadToken (short n a (used + 1)) ≡ Ok (k, m) → 0 < m
 some_word x n a used k m h = let e = some_word_ok x n a used k m h in omega (arith, e)
 
 -- ---- numbers
@@ -84,7 +87,7 @@ by_some size (Some f) rest l m h =
     let bs : List ℕ = drop f.used rest in
     let n : ℕ = digits_length f.base bs in
     let r : Counted = counted (length size + f.used + n) (literal_of_size size f.signed f.base (take n bs)) in
-    let u = unless_ok (n == 0 || goes_on (drop n bs)) bad_number r (l, m) h in
+    let u = unless_ok (n == 0 || goes_on (drop n bs)) BadNumber r (l, m) h in
     let e : m ≡ length size + f.used + n = counted_ok _ m _ l u.1 in
     let p = not_zero n (goes_on (drop n bs)) u.0 in
     omega (arith, e, p)
@@ -92,7 +95,7 @@ by_some [] None rest l m h = absurd cc
 by_some (b ∷ bs) None rest l m h =
     let v : ℕ = value_of 10 (b ∷ bs) in
     let r : Counted = Ok (plain_literal v, length (b ∷ bs)) in
-    let e : suc (length bs) ≡ m = one_length (plain_literal v) l (suc (length bs)) m r refl (unless_ok (goes_on rest || nat_le (2 ^ 32) v) bad_number r (l, m) h).1 in
+    let e : suc (length bs) ≡ m = one_length (plain_literal v) l (suc (length bs)) m r refl (unless_ok (goes_on rest || nat_le (2 ^ 32) v) BadNumber r (l, m) h).1 in
     omega (arith, e)
 
 number_some : (r : Counted) (k : Kind) (m : ℕ) → ((l : Literal) → r ≡ Ok (l, m) → 0 < m) → number_token r ≡ Ok (k, m) → 0 < m

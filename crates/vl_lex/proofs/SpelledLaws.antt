@@ -5,9 +5,11 @@ use Rattle.std.proofs.Math.ListN.{drop_of_length-le}
 use Rattle.std.proofs.Math.Seq.{drop-append_seam}
 use Rattle.vl_tree.specs.Token.{Kind, Token, token, Tokens}
 use Rattle.vl_pre.specs.Bytes.{Placed, Text, bytes}
-use Rattle.vl_lex.specs.Faults.{FaultKind, Fault, too_many_tokens}
+use Rattle.vl_tree.specs.declared.fault.FaultKind.{FaultKind}
+use Rattle.vl_tree.specs.declared.fault.FaultKind.TheVariants.{TooManyTokens}
+use Rattle.vl_lex.specs.Faults.{Fault, fault}
 use Rattle.vl_lex.specs.Tokens.{Piece, gap, spelt, piece_at, Lexed, ahead, stuck, lexed, lexed_from, most_tokens, answer, at_most, tokens_of}
-use Rattle.vl_lex.specs.Spelled.{size_of, Leads, tokens_in, AreTokens, FailsAt, PassesAt, HaveOneList}
+use Rattle.vl_lex.specs.Laws.Spelled.{size_of, Leads, tokens_in, AreTokens, FailsAt, PassesAt, HaveOneList}
 use Rattle.vl_lex.proofs.PieceLaws.{piece_some}
 
 -- ---- one step
@@ -85,7 +87,7 @@ have_one_list text ts us a b = ap (λ x. x.tokens) (sym (all_lexed text ts a) �
 -- pieces lead to the end, or to a place where none stands
 abbrev Ends : Option Fault → Text → Type 0
 Ends None there = there ≡ []
-Ends (Some f) there = (c : Placed) × (rest : Text) × (there ≡ c ∷ rest) × (piece_at (bytes there) ≡ Err f.kind) × (c.line ≡ f.line)
+Ends (Some f) there = (c : Placed) × (rest : Text) × (there ≡ c ∷ rest) × (k : FaultKind) × (piece_at (bytes there) ≡ Err k) × (f ≡ fault k c.line)
 
 pub record Cut (text : Text) (l : Lexed) : Type 0 where
   pub pieces : List Piece
@@ -112,7 +114,7 @@ cut_by n c ts (Ok p) h w more =
     subst (Cut (c ∷ ts)) (sym (step n c ts p h)) (cut_step c ts p (lexed_from n (drop (size_of p) (c ∷ ts))) h (more (drop (size_of p) (c ∷ ts)) (shorter n c ts p h w)))
 cut_by n c ts (Err k) h w more =
     let e : lexed_from (suc n) (c ∷ ts) ≡ stuck k c.line = rw h refl in
-    subst (Cut (c ∷ ts)) (sym e) (record { pieces = []; there = c ∷ ts; leads = refl; tokens = refl; ends = (c, ts, refl, h, refl) })
+    subst (Cut (c ∷ ts)) (sym e) (record { pieces = []; there = c ∷ ts; leads = refl; tokens = refl; ends = (c, ts, refl, k, h, refl) })
 
 cut : (n : ℕ) (ts : Text) → length ts ≤ n → Cut ts (lexed_from n ts)
 cut n [] w = subst (Cut []) (sym (over n)) cut_end
@@ -143,10 +145,10 @@ found text ts e =
 err_same : {X Y : Type 0} → (x y : Y) → (let r : Result X Y = Err x in r) ≡ Err y → x ≡ y
 err_same x y e = cc
 
--- what the answer's fault is: that behind all tokens, of which there are few, or the first token too many
+-- what the answer's fault is: that after all tokens, of which there are few, or the first token too many
 abbrev FromAnswer : Tokens → Option Fault → Fault → Type 0
 FromAnswer [] o f = o ≡ Some f
-FromAnswer (t ∷ more) o f = (line : ℕ) × (k : Kind) × (t ≡ token line k) × (record { kind = too_many_tokens; line = line } ≡ f)
+FromAnswer (t ∷ more) o f = (line : ℕ) × (k : Kind) × (t ≡ token line k) × (fault TooManyTokens line ≡ f)
 
 err_answer : (drops : Tokens) (o : Option Fault) (found : Tokens) (f : Fault) → answer drops o found ≡ Err f → FromAnswer drops o f
 err_answer (token line k ∷ more) o found f e = (line, k, refl, err_same _ f e)
@@ -157,11 +159,11 @@ err_answer [] None found f e = absurd cc
 pub record Nth (text : Text) (n : ℕ) (t : Token) : Type 0 where
   pub pieces : List Piece
   pub here : Placed
-  pub behind : Text
+  pub after : Text
   pub kind : Kind
   pub size : ℕ
-  pub leads : Leads pieces text (here ∷ behind)
-  pub stands : piece_at (bytes (here ∷ behind)) ≡ Ok (spelt kind size)
+  pub leads : Leads pieces text (here ∷ after)
+  pub stands : piece_at (bytes (here ∷ after)) ≡ Ok (spelt kind size)
   pub is : token here.line kind ≡ t
   pub before : length (tokens_in pieces text) ≡ n
 
@@ -170,7 +172,7 @@ nth_gap : (c : Placed) (ts : Text) (k n : ℕ) (t : Token) → piece_at (bytes (
 nth_gap c ts k n t h x = record {
   pieces = gap k ∷ x.pieces;
   here = x.here;
-  behind = x.behind;
+  after = x.after;
   kind = x.kind;
   size = x.size;
   leads = (h, x.leads);
@@ -184,7 +186,7 @@ nth_token : (c : Placed) (ts : Text) (a : Kind) (k n : ℕ) (t : Token) → piec
 nth_token c ts a k n t h x = record {
   pieces = spelt a k ∷ x.pieces;
   here = x.here;
-  behind = x.behind;
+  after = x.after;
   kind = x.kind;
   size = x.size;
   leads = (h, x.leads);
@@ -204,7 +206,7 @@ nth (gap k ∷ ps) n (c ∷ ts) there t more l e = nth_gap c ts k n t l.0 (nth p
 nth (spelt a k ∷ ps) zero (c ∷ ts) there t more l e = record {
   pieces = [];
   here = c;
-  behind = ts;
+  after = ts;
   kind = a;
   size = k;
   leads = refl;
@@ -225,10 +227,11 @@ by_drops text f [] d a =
     inl (record {
       pieces = k.pieces;
       here = e.0;
-      behind = e.1;
+      after = e.1;
       leads = subst (λ x. Leads k.pieces text x) e.2 k.leads;
-      fails = subst (λ (x : Text). piece_at (bytes x) ≡ Err f.kind) e.2 e.3;
-      line = e.4;
+      kind = e.3;
+      fails = subst (λ (x : Text). piece_at (bytes x) ≡ Err e.3) e.2 e.4;
+      is = e.5;
       few = subst (λ (x : Tokens). length x ≤ most_tokens) k.tokens w;
     })
 by_drops text f (t ∷ more) d a =
@@ -238,14 +241,13 @@ by_drops text f (t ∷ more) d a =
     inr (record {
       pieces = x.pieces;
       here = x.here;
-      behind = x.behind;
+      after = x.after;
       kind = x.kind;
       size = x.size;
       leads = x.leads;
       stands = x.stands;
-      line = l ∙ ap (λ g. g.line) a.3;
       full = x.before;
-      is = sym (ap (λ g. g.kind) a.3);
+      is = sym a.3 ∙ ap (fault TooManyTokens) (sym l);
     })
 
 pub faults : (text : Text) (f : Fault) → tokens_of text ≡ Err f → FailsAt text f ⊎ PassesAt text f
@@ -266,10 +268,10 @@ stuck_here (suc m) c rest k w h = rw h refl
 pub fails : (text : Text) (f : Fault) → FailsAt text f → tokens_of text ≡ Err f
 fails text f x =
     let found : Tokens = tokens_in x.pieces text in
-    let r = reached text (x.here ∷ x.behind) x.pieces x.leads in
-    let e : lexed text ≡ record { tokens = found; fault = Some (record { kind = f.kind; line = x.here.line }) } =
-    r.2 ∙ ap (ahead found) (stuck_here r.0 x.here x.behind f.kind r.1 x.fails) ∙ ap (λ t. record { tokens = t; fault = Some (record { kind = f.kind; line = x.here.line }) }) (append-nil found) in
-    ap (at_most most_tokens) e ∙ ap (λ d. answer d (Some (record { kind = f.kind; line = x.here.line })) found) (few_dropped found x.few) ∙ ap (λ l. Err (record { kind = f.kind; line = l })) x.line
+    let r = reached text (x.here ∷ x.after) x.pieces x.leads in
+    let e : lexed text ≡ record { tokens = found; fault = Some (fault x.kind x.here.line) } =
+    r.2 ∙ ap (ahead found) (stuck_here r.0 x.here x.after x.kind r.1 x.fails) ∙ ap (λ t. record { tokens = t; fault = Some (fault x.kind x.here.line) }) (append-nil found) in
+    ap (at_most most_tokens) e ∙ ap (λ d. answer d (Some (fault x.kind x.here.line)) found) (few_dropped found x.few) ∙ ap (λ g. Err g) (sym x.is)
 
 token_here : (m : ℕ) (c : Placed) (rest : Text) (k : Kind) (n : ℕ) → length (c ∷ rest) ≤ m → piece_at (bytes (c ∷ rest)) ≡ Ok (spelt k n)
     → (l : Lexed) × (lexed_from m (c ∷ rest) ≡ ahead (token c.line k ∷ []) l)
@@ -280,9 +282,8 @@ pub passes : (text : Text) (f : Fault) → PassesAt text f → tokens_of text �
 passes text f x =
     let found : Tokens = tokens_in x.pieces text in
     let t : Token = token x.here.line x.kind in
-    let r = reached text (x.here ∷ x.behind) x.pieces x.leads in
-    let h = token_here r.0 x.here x.behind x.kind x.size r.1 x.stands in
+    let r = reached text (x.here ∷ x.after) x.pieces x.leads in
+    let h = token_here r.0 x.here x.after x.kind x.size r.1 x.stands in
     let e : lexed text ≡ ahead found (ahead (t ∷ []) h.0) = r.2 ∙ ap (ahead found) h.1 in
     let d : drop most_tokens (found ++ (t ∷ h.0.tokens)) ≡ t ∷ h.0.tokens = ap (λ n. drop n (found ++ (t ∷ h.0.tokens))) (sym x.full) ∙ drop-append_seam found (t ∷ h.0.tokens) in
-    let g : too_many_tokens ≡ f.kind = sym x.is in
-    ap (at_most most_tokens) e ∙ ap (λ y. answer y h.0.fault (found ++ (t ∷ h.0.tokens))) d ∙ ap (λ l. Err (record { kind = too_many_tokens; line = l })) x.line ∙ ap (λ k. Err (record { kind = k; line = f.line })) g
+    ap (at_most most_tokens) e ∙ ap (λ y. answer y h.0.fault (found ++ (t ∷ h.0.tokens))) d ∙ ap (λ g. Err g) (sym x.is)

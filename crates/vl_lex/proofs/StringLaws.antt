@@ -1,10 +1,7 @@
 -- A string, as it is read.
 use Rattle.std.proofs.Common.{◌≡◌, ◌+◌, ◌-◌, ◌<◌, ◌≤◌, ℕ, zero, suc, List, [], ◌∷◌, ◌++◌, refl, sym, subst, ap, ◌∙◌, arith, append_assoc, append-nil, length, drop, Some, None, length-drop}
 use Rattle.std.specs.Prelude.{Result, Ok, Err}
-use Rattle.vl_lex.specs.Faults.{FaultKind, bad_token, bad_number, too_wide, open_string}
-use Rattle.vl_lex.specs.Reading.{IsWrong, HasFault}
-use Rattle.vl_lex.specs.declared.faults.Wrong.{Wrong}
-use Rattle.vl_lex.specs.declared.faults.Wrong.TheVariants as wrong
+use Rattle.vl_tree.specs.declared.fault.FaultKind.{FaultKind}
 use Rattle.vl_lex.specs.Strings.{longer, character_at, string_at, string_from}
 
 -- these bytes come before those of the answer, which has so many bytes of spelling more
@@ -61,16 +58,9 @@ string_end all text rest s e =
     let step : string_from (suc l.0) rest ≡ Ok ([], 1) = rw e refl in
     l.2 ∙ ap (longer_by text (length all - length rest)) step ∙ ap (λ x. Ok (x, length all - length rest + 1)) (append-nil text)
 
-string_stuck : (all text rest : List ℕ) → SoFar all text rest → (k : FaultKind) → character_at rest ≡ Err k → string_at all ≡ Err k
+-- a fault in it
+pub string_stuck : (all text rest : List ℕ) → SoFar all text rest → (k : FaultKind) → character_at rest ≡ Err k → string_at all ≡ Err k
 string_stuck all text rest s k e =
     let l = next_step all text rest s in
     let step : string_from (suc l.0) rest ≡ Err k = rw e refl in
     l.2 ∙ ap (longer_by text (length all - length rest)) step
-
--- a fault in it
-pub string_fault : (all text rest : List ℕ) (w : Wrong) → SoFar all text rest → HasFault (character_at rest) w → IsWrong (string_at all) w
-string_fault all text rest wrong.BadToken s h = string_stuck all text rest s bad_token h
-string_fault all text rest wrong.BadNumber s h = string_stuck all text rest s bad_number h
-string_fault all text rest wrong.TooWide s h = string_stuck all text rest s too_wide h
-string_fault all text rest wrong.OpenString s h = string_stuck all text rest s open_string h
-string_fault all text rest wrong.Memory s h = absurd h

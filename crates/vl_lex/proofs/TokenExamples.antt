@@ -6,7 +6,9 @@ use Rattle.vl_tree.specs.declared.token.Mark.TheVariants as m
 use Rattle.vl_tree.specs.declared.token.System.TheVariants as s
 use Rattle.vl_tree.specs.Token.{Kind, name, system, number, str, key, mark, token, Tokens}
 use Rattle.vl_pre.specs.Bytes.{placed, all_at}
-use Rattle.vl_lex.specs.Faults.{FaultKind, Fault, bad_token, bad_number, too_wide, open_string, too_many_tokens}
+use Rattle.vl_tree.specs.declared.fault.FaultKind.{FaultKind}
+use Rattle.vl_tree.specs.declared.fault.FaultKind.TheVariants.{BadToken, BadNumber, TooWide, OpenString, TooManyTokens}
+use Rattle.vl_lex.specs.Faults.{Fault, fault}
 use Rattle.vl_lex.specs.Numbers.{plain_literal}
 use Rattle.vl_lex.specs.Tokens.{tokens_of, lexed, at_most}
 
@@ -17,7 +19,7 @@ abbrev are : List Kind → Result Tokens Fault
 are ks = Ok (on 1 ks)
 
 abbrev is_at : FaultKind → ℕ → Result Tokens Fault
-is_at kind line = Err (record { kind = kind; line = line })
+is_at kind line = Err (fault kind line)
 
 abbrev read : List ℕ → Result Tokens Fault
 read bs = tokens_of (placed 1 bs)
@@ -57,13 +59,13 @@ longest_name = refl
 escaped_is_no_keyword : read (codes "\\if \\a+b* c") ≡ are (name (codes "if") ∷ name (codes "a+b*") ∷ name (codes "c") ∷ [])
 escaped_is_no_keyword = refl
 
-empty_escaped : read (codes "\\ a") ≡ is_at bad_token 1
+empty_escaped : read (codes "\\ a") ≡ is_at BadToken 1
 empty_escaped = refl
 
 system_names : read (codes "$stop $finish") ≡ are (system s.Stop ∷ system s.Other ∷ [])
 system_names = refl
 
-lone_dollar : read (codes "a\n$ b") ≡ is_at bad_token 2
+lone_dollar : read (codes "a\n$ b") ≡ is_at BadToken 2
 lone_dollar = refl
 
 lines_of_tokens : read (codes "a\n\r\n b") ≡ Ok (on 1 (name (codes "a") ∷ []) ++ on 3 (name (codes "b") ∷ []))
@@ -76,7 +78,7 @@ over_lines = refl
 longest_allowed : read (times 255 (codes "a")) ≡ are (name (times 255 (codes "a")) ∷ [])
 longest_allowed = refl
 
-too_long_name : read (times 256 (codes "a")) ≡ is_at bad_token 1
+too_long_name : read (times 256 (codes "a")) ≡ is_at BadToken 1
 too_long_name = refl
 
 -- ---- plain decimals
@@ -84,11 +86,11 @@ too_long_name = refl
 greatest_plain : read (codes "4_294_967_295") ≡ are (plain (2 ^ 32 - 1) ∷ [])
 greatest_plain = refl
 
-above_plain : read (codes "4294967296") ≡ is_at bad_number 1
+above_plain : read (codes "4294967296") ≡ is_at BadNumber 1
 above_plain = refl
 
-letter_behind : read (codes "12ab") ≡ is_at bad_number 1
-letter_behind = refl
+letter_after : read (codes "12ab") ≡ is_at BadNumber 1
+letter_after = refl
 
 -- ---- based numbers
 
@@ -104,7 +106,7 @@ signed_number = refl
 without_size : read (codes "'hFFFFFFFF 'sd5 'b1") ≡ are (unsized false 4294967295 ∷ unsized true 5 ∷ unsized false 1 ∷ [])
 without_size = refl
 
-above_without_size : read (codes "'h100000000") ≡ is_at too_wide 1
+above_without_size : read (codes "'h100000000") ≡ is_at TooWide 1
 above_without_size = refl
 
 cut_on_the_left : read (codes "4'd16 8'h1FF") ≡ are (sized 4 0 ∷ sized 8 255 ∷ [])
@@ -133,39 +135,39 @@ wild_without_size = refl
 decimal_z : read (codes "4'd? 4'dz 4'dX") ≡ are (wild 4 0 15 ∷ wild 4 0 15 ∷ sized 4 0 ∷ [])
 decimal_z = refl
 
-gap_behind_a_lone_digit : read (codes "4'dz_ 4'dx__") ≡ are (wild 4 0 15 ∷ sized 4 0 ∷ [])
-gap_behind_a_lone_digit = refl
+gap_after_a_lone_digit : read (codes "4'dz_ 4'dx__") ≡ are (wild 4 0 15 ∷ sized 4 0 ∷ [])
+gap_after_a_lone_digit = refl
 
-wild_stands_alone : read (codes "4'd?1") ≡ is_at bad_number 1
+wild_stands_alone : read (codes "4'd?1") ≡ is_at BadNumber 1
 wild_stands_alone = refl
 
--- a `?` behind decimal digits is a mark
-question_behind_digits : read (codes "4'd1?a") ≡ are (sized 4 1 ∷ mark m.Question ∷ name (codes "a") ∷ [])
-question_behind_digits = refl
+-- a `?` after decimal digits is a mark
+question_after_digits : read (codes "4'd1?a") ≡ are (sized 4 1 ∷ mark m.Question ∷ name (codes "a") ∷ [])
+question_after_digits = refl
 
 widest : read (codes "128'hFFFFFFFFFFFFFFFFFFFFFFFFFFFFFFFF") ≡ are (sized 128 (2 ^ 128 - 1) ∷ [])
 widest = refl
 
-above_the_widest : read (codes "128'h100000000000000000000000000000000") ≡ is_at too_wide 1
+above_the_widest : read (codes "128'h100000000000000000000000000000000") ≡ is_at TooWide 1
 above_the_widest = refl
 
-too_wide_size : read (codes "129'd0") ≡ is_at too_wide 1
+too_wide_size : read (codes "129'd0") ≡ is_at TooWide 1
 too_wide_size = refl
 
-no_size : read (codes "0'd0") ≡ is_at bad_number 1
+no_size : read (codes "0'd0") ≡ is_at BadNumber 1
 no_size = refl
 
-no_digit : read (codes "4'd 1") ≡ is_at bad_number 1
+no_digit : read (codes "4'd 1") ≡ is_at BadNumber 1
 no_digit = refl
 
-underscore_first : read (codes "1'b_1") ≡ is_at bad_number 1
+underscore_first : read (codes "1'b_1") ≡ is_at BadNumber 1
 underscore_first = refl
 
-not_of_the_base : read (codes "4'b12") ≡ is_at bad_number 1
+not_of_the_base : read (codes "4'b12") ≡ is_at BadNumber 1
 not_of_the_base = refl
 
 -- a number's form and a size of 0 are looked at before its width
-form_first : read (codes "129'b2") ≡ is_at bad_number 1
+form_first : read (codes "129'b2") ≡ is_at BadNumber 1
 form_first = refl
 
 -- a blank stands between two numbers
@@ -173,10 +175,10 @@ blank_within : read (codes "3 'd1") ≡ are (plain 3 ∷ unsized false 1 ∷ [])
 blank_within = refl
 
 -- an apostrophe without a base is no token; the digits before it are one
-no_base : read (codes "4'q1") ≡ is_at bad_token 1
+no_base : read (codes "4'q1") ≡ is_at BadToken 1
 no_base = refl
 
-digits_before_it : at_most 1 (lexed (placed 1 (codes "1 4'q"))) ≡ is_at too_many_tokens 1
+digits_before_it : at_most 1 (lexed (placed 1 (codes "1 4'q"))) ≡ is_at TooManyTokens 1
 digits_before_it = refl
 
 -- ---- strings
@@ -184,24 +186,24 @@ digits_before_it = refl
 escapes : read (codes "\"a\\n\\t\\\"\\\\\\101\\0a\\377\"") ≡ are (str (codes "a\n\t\"\\A" ++ (0 ∷ 97 ∷ 255 ∷ [])) ∷ [])
 escapes = refl
 
-octal_above : read (codes "\"\\400\"") ≡ is_at bad_token 1
+octal_above : read (codes "\"\\400\"") ≡ is_at BadToken 1
 octal_above = refl
 
-other_escape : read (codes "\"\\q\"") ≡ is_at bad_token 1
+other_escape : read (codes "\"\\q\"") ≡ is_at BadToken 1
 other_escape = refl
 
-string_over_lines : read (codes "a\n\"b\nc\"") ≡ is_at open_string 2
+string_over_lines : read (codes "a\n\"b\nc\"") ≡ is_at OpenString 2
 string_over_lines = refl
 
-string_to_the_end : read (codes "\"b\\\"") ≡ is_at open_string 1
+string_to_the_end : read (codes "\"b\\\"") ≡ is_at OpenString 1
 string_to_the_end = refl
 
 -- a backslash before the line's end is another escape
-escaped_line_end : read (codes "\"b\\\nc\"") ≡ is_at bad_token 1
+escaped_line_end : read (codes "\"b\\\nc\"") ≡ is_at BadToken 1
 escaped_line_end = refl
 
 -- CR alone is a byte of a string, and ends its line before LF
-carriage_return : read (codes "\"\r\" \"\r\n\"") ≡ is_at open_string 1
+carriage_return : read (codes "\"\r\" \"\r\n\"") ≡ is_at OpenString 1
 carriage_return = refl
 
 -- ---- attributes
@@ -216,7 +218,7 @@ string_of_a_line = refl
 ends_of_lines_in_attributes : read (codes "(* \"*)\\\n*) a (* \"*)\r\n*) b (* \"*)\r*)\" *) c") ≡ Ok (on 2 (name (codes "a") ∷ []) ++ on 3 (name (codes "b") ∷ name (codes "c") ∷ []))
 ends_of_lines_in_attributes = refl
 
-string_to_the_attributes_end : read (codes "(* \"*)") ≡ is_at bad_token 1
+string_to_the_attributes_end : read (codes "(* \"*)") ≡ is_at BadToken 1
 string_to_the_attributes_end = refl
 
 stars_in_attributes : read (codes "(***) a (* * ) ( *) b") ≡ are (name (codes "a") ∷ name (codes "b") ∷ [])
@@ -228,16 +230,16 @@ shortest_attribute = refl
 event_is_no_attribute : read (codes "@( * ) @(*)@(*\t)") ≡ are (let e = mark m.At ∷ mark m.OpenParen ∷ mark m.Star ∷ mark m.CloseParen ∷ [] in e ++ e ++ e)
 event_is_no_attribute = refl
 
-open_attribute : read (codes "a\n(* keep") ≡ is_at bad_token 2
+open_attribute : read (codes "a\n(* keep") ≡ is_at BadToken 2
 open_attribute = refl
 
 -- ---- how many
 
-third_is_too_many : at_most 2 (lexed (placed 1 (codes "a b\nc $"))) ≡ is_at too_many_tokens 2
+third_is_too_many : at_most 2 (lexed (placed 1 (codes "a b\nc $"))) ≡ is_at TooManyTokens 2
 third_is_too_many = refl
 
 -- a place where no token stands isn't numbered
-fault_is_no_token : at_most 2 (lexed (placed 1 (codes "a b\n$"))) ≡ is_at bad_token 2
+fault_is_no_token : at_most 2 (lexed (placed 1 (codes "a b\n$"))) ≡ is_at BadToken 2
 fault_is_no_token = refl
 
 no_byte : read [] ≡ Ok []

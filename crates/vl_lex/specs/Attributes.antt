@@ -4,19 +4,19 @@ use Rattle.std.specs.Prelude.{ℕ, zero, suc, ◌+◌, ◌==◌, Bool, false, no
 use Rattle.vl_pre.specs.Bytes.{begins, is_white}
 use Rattle.vl_pre.specs.Pieces.{string_length}
 
--- what stands behind white space
-abbrev pub behind_white : List ℕ → List ℕ
-behind_white [] = []
-behind_white (b ∷ bs) = if is_white b then behind_white bs else b ∷ bs
+-- what stands after white space
+abbrev pub after_white : List ℕ → List ℕ
+after_white [] = []
+after_white (b ∷ bs) = if is_white b then after_white bs else b ∷ bs
 
--- `(*`, not followed by `)` behind white space
+-- `(*`, not followed by `)` after white space
 abbrev pub opens_attribute : List ℕ → Bool
-opens_attribute bs = begins (codes "(*") bs && not (begins (codes ")") (behind_white (drop 2 bs)))
+opens_attribute bs = begins (codes "(*") bs && not (begins (codes ")") (after_white (drop 2 bs)))
 
--- how many bytes of a string stand behind this byte: where it is a quote, those up to the next quote that no backslash escapes, that one
+-- how many bytes of a string stand after this byte: where it is a quote, those up to the next quote that no backslash escapes, that one
 -- included, or up to the end of the line or text
-abbrev pub string_behind : ℕ → List ℕ → ℕ
-string_behind b bs = if b == 34 then string_length false false bs else 0
+abbrev pub string_after : ℕ → List ℕ → ℕ
+string_after b bs = if b == 34 then string_length false false bs else 0
 
 -- one more
 abbrev pub more : Option ℕ → Option ℕ
@@ -24,11 +24,11 @@ more None = None
 more (Some n) = Some (n + 1)
 
 -- how many bytes lead to the first `*)` outside strings, and it with them, where the first n bytes are the rest of a string
-abbrev pub close_behind : ℕ → List ℕ → Option ℕ
-close_behind n [] = None
-close_behind zero (b ∷ bs) = if begins (codes "*)") (b ∷ bs) then Some 2 else more (close_behind (string_behind b bs) bs)
-close_behind (suc n) (b ∷ bs) = more (close_behind n bs)
+abbrev pub close_after : ℕ → List ℕ → Option ℕ
+close_after n [] = None
+close_after zero (b ∷ bs) = if begins (codes "*)") (b ∷ bs) then Some 2 else more (close_after (string_after b bs) bs)
+close_after (suc n) (b ∷ bs) = more (close_after n bs)
 
--- how many bytes lead from behind the `(*` of an attribute to the first `*)` outside strings, and it with them
+-- how many bytes lead from after the `(*` of an attribute to the first `*)` outside strings, and it with them
 abbrev pub close_from : List ℕ → Option ℕ
-close_from bs = close_behind 0 bs
+close_from bs = close_after 0 bs

@@ -54,7 +54,7 @@ abbrev pub digits_in : List ℕ → List ℕ
 digits_in [] = []
 digits_in (b ∷ bs) = if b == 95 then digits_in bs else b ∷ digits_in bs
 
--- Places of a number: each counts as many times the radix as there are places behind it.
+-- Places of a number: each counts as many times the radix as there are places after it.
 abbrev pub positional : ℕ → List ℕ → ℕ
 positional r [] = 0
 positional r (d ∷ ds) = d * r ^ length ds + positional r ds

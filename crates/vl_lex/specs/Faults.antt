@@ -1,18 +1,12 @@
--- The faults of tokens. This project's own.
+-- The faults of tokens: those of phase 2. This project's own.
 use Rattle.std.specs.Prelude.{ℕ, Bool, true, false, Result, Err}
+use Rattle.vl_tree.specs.declared.fault.FaultKind.{FaultKind}
+use Rattle.vl_tree.specs.Fault as static
+pub use Rattle.vl_tree.specs.Fault.{Fault}
 
--- why no token stands at a place
-pub data FaultKind : Type 0 where
-  bad_token : FaultKind
-  bad_number : FaultKind
-  too_wide : FaultKind
-  open_string : FaultKind
-  too_many_tokens : FaultKind
-
--- a fault with its kind and line
-pub record Fault : Type 0 where
-  pub kind : FaultKind
-  pub line : ℕ
+-- a fault of this kind on this line
+abbrev pub fault : FaultKind → ℕ → Fault
+fault kind line = static.fault 2 line kind
 
 -- this fault where the test holds, and else that answer
 abbrev pub unless : {X : Type 0} → Bool → FaultKind → Result X FaultKind → Result X FaultKind

@@ -5,5 +5,5 @@ pub mod Numbers
 pub mod Strings
 pub mod Attributes
 pub mod Tokens
-pub mod Spelled
-pub mod Reading
+pub mod Calls
+pub mod Laws

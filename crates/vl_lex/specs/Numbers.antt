@@ -1,11 +1,14 @@
 -- Numbers: their spellings and what they say (IEEE 1364-2005, 3.5.1; limits are this project's own).
-use Rattle.std.specs.Prelude.{ℕ, ◌+◌, ◌%◌, ◌^◌, ◌==◌, nat_le, Bool, true, false, ◌||◌, if◌then◌else◌, List, [], ◌∷◌, take, drop, length, Option, Some, None, Result, Ok, Err}
+use Rattle.std.specs.Prelude.{ℕ, ◌+◌, ◌%◌, ◌^◌, ◌==◌, nat_le, nat_lt, Bool, true, false, ◌||◌, if◌then◌else◌, List, [], ◌∷◌, take, drop, length, Option, Some, None, Result, Ok, Err}
 use Rattle.std.specs.List.{prefix_len}
 use Rattle.vl_tree.specs.Token.{Literal}
 use Rattle.vl_pre.specs.Bytes.{is_digit, begins_name}
-use Rattle.vl_lex.specs.Faults.{FaultKind, bad_token, bad_number, too_wide, unless}
+use Rattle.vl_tree.specs.declared.fault.FaultKind.{FaultKind}
+use Rattle.vl_tree.specs.declared.fault.FaultKind.TheVariants.{BadToken, BadNumber, TooWide}
+use Rattle.vl_lex.specs.Faults.{unless}
 use Rattle.vl_lex.specs.declared.digits.Base.{Base}
 use Rattle.vl_lex.specs.Digits.{base_of, is_x, is_z, is_digit_of, value_of, radix, wild_of}
+use Rattle.dt_core.specs.declared.limits.TheConstants.{MAX_WIDTH}
 
 -- a literal, and how many bytes its spelling has
 abbrev pub Counted : Type 0
@@ -28,7 +31,7 @@ digits_length base (b ∷ bs) =
     if is_digit_of base b then prefix_len (is_in_digits base) bs + 1 else
     if is_x b || is_z b then prefix_len (λ c. c == 95) bs + 1 else 0
 
--- a letter, digit or `_` comes, which may not stand directly behind a number
+-- a letter, digit or `_` comes, which may not stand directly after a number
 abbrev pub goes_on : List ℕ → Bool
 goes_on [] = false
 goes_on (b ∷ bs) = begins_name b || is_digit b
@@ -65,10 +68,10 @@ format_at (b ∷ bs) = if b == 39 then format_sign bs else None
 abbrev pub plain_literal : ℕ → Literal
 plain_literal v = record { width = 32; sized = false; signed = true; value = v; wild = 0 }
 
--- a plain decimal, and what stands behind it
+-- a plain decimal, and what stands after it
 abbrev pub plain_number : List ℕ → List ℕ → Counted
 plain_number digits rest = let v = value_of 10 digits in
-    unless (goes_on rest || nat_le (2 ^ 32) v) bad_number (Ok (plain_literal v, length digits))
+    unless (goes_on rest || nat_le (2 ^ 32) v) BadNumber (Ok (plain_literal v, length digits))
 
 -- the literal of this width and these digits; what of its value doesn't fit the width is cut on the left
 abbrev pub based_literal : ℕ → Bool → Bool → Base → List ℕ → Literal
@@ -78,14 +81,14 @@ based_literal width sized signed base digits =
 
 -- the same, unless it is too wide
 abbrev pub literal_within : Bool → ℕ → Bool → Bool → Base → List ℕ → Result Literal FaultKind
-literal_within true width sized signed base digits = Err too_wide
+literal_within true width sized signed base digits = Err TooWide
 literal_within false width sized signed base digits = Ok (based_literal width sized signed base digits)
 
--- the literal of this width: of 128 bits at most, and with digits below 2^128
+-- the literal of this width: of no more bits than there may be, and with digits below 2^128
 abbrev pub sized_literal : ℕ → Bool → Base → List ℕ → Result Literal FaultKind
 sized_literal width signed base digits =
-    let wide = nat_le 129 width || nat_le (2 ^ 128) (value_of (radix base) digits) in
-    unless (width == 0) bad_number (literal_within wide width true signed base digits)
+    let wide = nat_lt MAX_WIDTH width || nat_le (2 ^ 128) (value_of (radix base) digits) in
+    unless (width == 0) BadNumber (literal_within wide width true signed base digits)
 
 -- the literal without a size: of 32 bits, into which its digits fit
 abbrev pub unsized_literal : Bool → Base → List ℕ → Result Literal FaultKind
@@ -106,12 +109,12 @@ abbrev pub based_number : List ℕ → Format → List ℕ → Counted
 based_number size format bs =
     let n = digits_length format.base bs in
     let literal = literal_of_size size format.signed format.base (take n bs) in
-    unless (n == 0 || goes_on (drop n bs)) bad_number (counted (length size + format.used + n) literal)
+    unless (n == 0 || goes_on (drop n bs)) BadNumber (counted (length size + format.used + n) literal)
 
--- a number by what stands behind its first digits; an apostrophe that leads to no base begins no number
+-- a number by what stands after its first digits; an apostrophe that leads to no base begins no number
 abbrev pub number_by : List ℕ → Option Format → List ℕ → Counted
 number_by size (Some format) rest = based_number size format (drop format.used rest)
-number_by [] None rest = Err bad_token
+number_by [] None rest = Err BadToken
 number_by (b ∷ bs) None rest = plain_number (b ∷ bs) rest
 
 -- the number at the head of bytes that begin with a digit or an apostrophe, and how many bytes it has

@@ -1,17 +1,21 @@
 -- Tokens: what clean text is spelled of (IEEE 1364-2005, 3.1 to 3.8; limits are this project's own).
 use Rattle.std.specs.Prelude.{ℕ, zero, suc, ◌+◌, ◌==◌, nat_lt, nat_eq, Bool, if◌then◌else◌, ◌||◌, List, [], ◌∷◌, ◌++◌, take, drop, length, Option, Some, None, Result, Ok, Err}
 use Rattle.std.specs.List.{starts_with, prefix_len}
+use Rattle.vl_pre.specs.Tables.{entry}
 use Rattle.vl_tree.specs.declared.token.Key.{Key}
 use Rattle.vl_tree.specs.declared.token.Mark.{Mark}
 use Rattle.vl_tree.specs.declared.token.System.{System}
 use Rattle.vl_tree.specs.declared.token.System.TheVariants as s
 use Rattle.vl_tree.specs.Token.{Kind, name, system, number, str, key, mark, token, Tokens}
 use Rattle.vl_pre.specs.Bytes.{Text, bytes, is_white, is_digit, begins_name, between, name_length}
-use Rattle.vl_lex.specs.Faults.{FaultKind, bad_token, too_many_tokens, Fault, unless}
-use Rattle.vl_lex.specs.Words.{entry, keys, marks, systems}
+use Rattle.vl_tree.specs.declared.fault.FaultKind.{FaultKind}
+use Rattle.vl_tree.specs.declared.fault.FaultKind.TheVariants.{BadToken, TooManyTokens}
+use Rattle.vl_lex.specs.Faults.{Fault, fault, unless}
+use Rattle.vl_lex.specs.Words.{keys, marks, systems}
 use Rattle.vl_lex.specs.Numbers.{Counted, number_at}
 use Rattle.vl_lex.specs.Strings.{string_at}
 use Rattle.vl_lex.specs.Attributes.{opens_attribute, close_from}
+use Rattle.dt_core.specs.declared.limits.TheConstants.{MAX_NAME, MAX_TOKENS}
 
 -- ---- one token
 
@@ -21,11 +25,11 @@ Spelled = Result (Kind × ℕ) FaultKind
 
 -- the most bytes of a name
 abbrev pub most_name : ℕ
-most_name = 255
+most_name = MAX_NAME
 
 -- a word of n bytes, 255 at most, whose spelling has so many
 abbrev pub short : ℕ → Kind → ℕ → Spelled
-short n kind used = unless (nat_lt most_name n) bad_token (Ok (kind, used))
+short n kind used = unless (nat_lt most_name n) BadToken (Ok (kind, used))
 
 -- a keyword is no name (3.7.2)
 abbrev pub key_or_name : Option Key → List ℕ → Kind
@@ -44,32 +48,32 @@ name_token bs = let n = name_length bs in short n (word_kind (take n bs)) n
 abbrev pub is_in_escaped : ℕ → Bool
 is_in_escaped = between 33 126
 
--- an escaped name, behind its backslash: one byte of 33 to 126 at least, and never a keyword (3.7.1)
+-- an escaped name, after its backslash: one byte of 33 to 126 at least, and never a keyword (3.7.1)
 abbrev pub escaped_token : List ℕ → Spelled
-escaped_token bs = let n = prefix_len is_in_escaped bs in unless (n == 0) bad_token (short n (name (take n bs)) (n + 1))
+escaped_token bs = let n = prefix_len is_in_escaped bs in unless (n == 0) BadToken (short n (name (take n bs)) (n + 1))
 
 -- a system name that no rule uses is `Other`
 abbrev pub or_other : Option System → System
 or_other (Some a) = a
 or_other None = s.Other
 
--- a system name, behind its `$` (3.7.3)
+-- a system name, after its `$` (3.7.3)
 abbrev pub system_token : List ℕ → Spelled
-system_token bs = let n = name_length bs in unless (n == 0) bad_token (short n (system (or_other (entry systems (take n bs)))) (n + 1))
+system_token bs = let n = name_length bs in unless (n == 0) BadToken (short n (system (or_other (entry systems (take n bs)))) (n + 1))
 
 -- a number
 abbrev pub number_token : Counted → Spelled
 number_token (Ok l) = Ok (number l.0, l.1)
 number_token (Err k) = Err k
 
--- a string, by what stands behind its first quote
+-- a string, by what stands after its first quote
 abbrev pub string_token : Result (List ℕ × ℕ) FaultKind → Spelled
 string_token (Ok a) = Ok (str a.0, a.1 + 1)
 string_token (Err k) = Err k
 
 -- the first of these marks with which the bytes begin
 abbrev pub mark_token : List (List ℕ × Mark) → List ℕ → Spelled
-mark_token [] bs = Err bad_token
+mark_token [] bs = Err BadToken
 mark_token (m ∷ ms) bs = if starts_with nat_eq bs m.0 then Ok (mark m.1, length m.0) else mark_token ms bs
 
 -- what the first byte of a token tells
@@ -101,7 +105,7 @@ token_of of_mark bs = mark_token marks bs
 
 -- the token at the head of these bytes, or why none stands there
 abbrev pub token_at : List ℕ → Spelled
-token_at [] = Err bad_token
+token_at [] = Err BadToken
 token_at (b ∷ bs) = token_of (class_of b) (b ∷ bs)
 
 -- ---- pieces of a text
@@ -122,9 +126,9 @@ abbrev pub lead_of : List ℕ → Lead
 lead_of [] = spelling
 lead_of (b ∷ bs) = if is_white b then white else if opens_attribute (b ∷ bs) then attribute else spelling
 
--- an attribute, by how many bytes lead from behind its `(*` to its end
+-- an attribute, by how many bytes lead from after its `(*` to its end
 abbrev pub attribute_piece : Option ℕ → Result Piece FaultKind
-attribute_piece None = Err bad_token
+attribute_piece None = Err BadToken
 attribute_piece (Some n) = Ok (gap (n + 2))
 
 -- a token as a piece
@@ -155,9 +159,9 @@ ahead ts l = record l { tokens = ts ++ l.tokens }
 
 -- no token, but this fault
 abbrev pub stuck : FaultKind → ℕ → Lexed
-stuck kind line = record { tokens = []; fault = Some (record { kind = kind; line = line }) }
+stuck kind line = record { tokens = []; fault = Some (fault kind line) }
 
--- a piece that begins on this line, or why none stands here, and what `more` reads behind it
+-- a piece that begins on this line, or why none stands here, and what `more` reads after it
 abbrev pub from_piece : Result Piece FaultKind → ℕ → Text → (Text → Lexed) → Lexed
 from_piece (Ok (gap n)) line ts more = more (drop n ts)
 from_piece (Ok (spelt k n)) line ts more = ahead (token line k ∷ []) (more (drop n ts))
@@ -175,11 +179,11 @@ lexed ts = lexed_from (length ts) ts
 
 -- the most tokens
 abbrev pub most_tokens : ℕ
-most_tokens = 1048576
+most_tokens = MAX_TOKENS
 
--- what is found by this many tokens at most: those behind them, the fault behind those found, and the tokens
+-- what is found by this many tokens at most: those after them, the fault after those found, and the tokens
 abbrev pub answer : Tokens → Option Fault → Tokens → Result Tokens Fault
-answer (token line kind ∷ more) fault found = Err (record { kind = too_many_tokens; line = line })
+answer (token line kind ∷ more) f found = Err (fault TooManyTokens line)
 answer [] (Some f) found = Err f
 answer [] None found = Ok found
 

@@ -1,16 +1,11 @@
 -- Keywords, marks and system names (IEEE 1364-2005, 3.4, 3.7.2, 3.7.3 and annex B).
-use Rattle.std.specs.Prelude.{ℕ, if◌then◌else◌, List, [], ◌∷◌, ◌++◌, Option, Some, None, codes, bytes_eq}
+use Rattle.std.specs.Prelude.{ℕ, List, [], ◌∷◌, ◌++◌, codes}
 use Rattle.vl_tree.specs.declared.token.Key.{Key}
 use Rattle.vl_tree.specs.declared.token.Key.TheVariants as k
 use Rattle.vl_tree.specs.declared.token.Mark.{Mark}
 use Rattle.vl_tree.specs.declared.token.Mark.TheVariants as m
 use Rattle.vl_tree.specs.declared.token.System.{System}
 use Rattle.vl_tree.specs.declared.token.System.TheVariants as s
-
--- what the table has under the word
-abbrev pub entry : {X : Type 0} → List (List ℕ × X) → List ℕ → Option X
-entry [] word = None
-entry (e ∷ es) word = if bytes_eq e.0 word then Some e.1 else entry es word
 
 -- the keywords that the grammar quotes
 abbrev pub grammar_keys : List (List ℕ × Key)

@@ -2,11 +2,11 @@
 
 ghost use Rattle.std.specs.Prelude.{◌≡◌, ◌+◌, ◌≤◌, ◌<◌, ◌∷◌, ◌^◌, length, IfSome, IsTrue};
 ghost use Rattle.vl_lex.specs.Attributes as a;
-ghost use Rattle.vl_lex.specs.Reading as r;
+ghost use Rattle.vl_lex.specs.Calls.Reading as r;
 
-use crate::bytes::{behind, is_white, next};
+use vl_pre::bytes::{after, is_white, next};
 
-/// Where a byte of an attribute stands: outside strings, in a string, or behind a backslash in one.
+/// Where a byte of an attribute stands: outside strings, in a string, or after a backslash in one.
 #[derive(Clone, Copy, Debug, PartialEq, Eq)]
 pub enum Within {
     Outside,
@@ -14,8 +14,8 @@ pub enum Within {
     Escaping,
 }
 
-fn behind_white(bytes: &[u8]) -> &[u8]
-    ensures { result.now ≡ a.behind_white bytes.now }
+fn after_white(bytes: &[u8]) -> &[u8]
+    ensures { result.now ≡ a.after_white bytes.now }
 {
     let mut rest = bytes;
     while let Some((first, after)) = next(rest) {
@@ -27,14 +27,14 @@ fn behind_white(bytes: &[u8]) -> &[u8]
     rest
 }
 
-/// Whether an attribute begins here: `(*`, not followed by `)` behind white space.
+/// Whether an attribute begins here: `(*`, not followed by `)` after white space.
 pub fn opens_attribute(bytes: &[u8]) -> bool
     ensures { result ≡ a.opens_attribute bytes.now }
 {
-    bytes.starts_with(b"(*") && !behind_white(behind(bytes, 2)).starts_with(b")")
+    bytes.starts_with(b"(*") && !after_white(after(bytes, 2)).starts_with(b")")
 }
 
-// Where the byte behind this one stands.
+// Where the byte after this one stands.
 fn after_byte(at: Within, byte: u8) -> Within
     ensures { result ≡ r.after_byte at byte }
 {

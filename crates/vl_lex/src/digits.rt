@@ -2,10 +2,10 @@
 
 ghost use Rattle.std.specs.Prelude.{◌≡◌, ◌+◌, ◌-◌, ◌*◌, ◌%◌, ◌^◌, ◌≤◌, ◌<◌, ◌==◌, if◌then◌else◌, ℕ, ◌∷◌, length, map};
 ghost use Rattle.vl_lex.specs.Digits as d;
-ghost use Rattle.vl_lex.specs.Reading.{IsValue};
+ghost use Rattle.vl_lex.specs.Calls.Reading.{IsValue};
 
-use crate::bytes::{is_digit, next};
 use dt_core::limits::MAX_WIDTH;
+use vl_pre::bytes::{is_digit, next};
 
 /// The base of a number.
 #[derive(Clone, Copy, Debug, PartialEq, Eq)]
@@ -129,7 +129,7 @@ pub fn digits_value(radix: u128, digits: &[u8]) -> Option<u128>
 
 /// The lowest bits of a value.
 pub fn low_bits(width: u32, value: u128) -> u128
-    requires { width ≤ 128 }
+    requires { width ≤ MAX_WIDTH }
     ensures value { result ≡ value % 2 ^ width }
     ensures fits { result < 2 ^ width }
 {
@@ -142,7 +142,7 @@ pub fn low_bits(width: u32, value: u128) -> u128
 
 // Ones in so many bits.
 fn all_bits(width: u32) -> u128
-    requires { width ≤ 128 }
+    requires { width ≤ MAX_WIDTH }
     ensures { result ≡ 2 ^ width - 1 }
 {
     if width == MAX_WIDTH {
@@ -162,7 +162,7 @@ fn z_bits(bits: u32, byte: u8) -> u128
 
 // What stands before the wild bits of digits at a width: ones where the leftmost digit is a `z`.
 fn wild_left(width: u32, digits: &[u8]) -> u128
-    requires { width ≤ 128 }
+    requires { width ≤ MAX_WIDTH }
     ensures { result ≡ d.wild_left width digits.now }
 {
     match next(digits) {
@@ -184,8 +184,8 @@ fn wild_step(bits: u32, wild: u128, byte: u8) -> u128
     }
 }
 
-// The wild bits of digits behind those before them, modulo 2^128.
-fn wild_behind(bits: u32, before: u128, digits: &[u8]) -> u128
+// The wild bits of digits after those before them, modulo 2^128.
+fn wild_after(bits: u32, before: u128, digits: &[u8]) -> u128
     requires { bits ≤ 4 }
     ensures { result ≡ d.positional (2 ^ bits) (before ∷ map (d.z_bits bits) (d.digits_in digits.now)) % 2 ^ 128 }
 {
@@ -198,10 +198,10 @@ fn wild_behind(bits: u32, before: u128, digits: &[u8]) -> u128
 
 /// The wild bits of digits at a width.
 pub fn wild_bits(base: Base, width: u32, digits: &[u8]) -> u128
-    requires { width ≤ 128 }
+    requires { width ≤ MAX_WIDTH }
     ensures value { result ≡ d.wild_of base width digits.now }
     ensures fits { result < 2 ^ width }
 {
-    let wild = wild_behind(base.digit_bits(), wild_left(width, digits), digits);
+    let wild = wild_after(base.digit_bits(), wild_left(width, digits), digits);
     low_bits(width, wild)
 }

@@ -1,47 +1,46 @@
-//! Why a text has no tokens, and why no token stands at a place.
+//! Faults of a text that has no tokens, and why no token stands at a place.
 
 ghost use Rattle.std.specs.Prelude.{◌≡◌};
-ghost use Rattle.vl_lex.specs.Reading.{fault_on};
+ghost use Rattle.vl_lex.specs.Calls.Reading.{fault_on};
+ghost use Rattle.vl_tree.specs.Fault.{on_line};
 
-/// Why a clean text has no tokens: its first fault, with the line of the first byte of what is bad, or want of memory.
-#[derive(Clone, Copy, Debug, PartialEq, Eq)]
-pub enum LexFault {
-    /// No token begins so: a byte that begins none, a name of more than 255 bytes, an empty escaped or system name, an apostrophe
-    /// without a base, another escape in a string, or an attribute without end.
-    BadToken { line: u32 },
-    /// A number without digits, with a digit of another base, with a letter behind it, of size 0, or a plain decimal above 2^32-1.
-    BadNumber { line: u32 },
-    /// A number of more than 128 bits, or one without size of more than 32.
-    TooWide { line: u32 },
-    /// A string that its line or the text ends.
-    OpenString { line: u32 },
-    /// One token more than 1,048,576.
-    TooManyTokens { line: u32 },
-    /// There wasn't enough memory.
-    Memory,
-}
+use vl_tree::fault::{FaultKind, StaticFault};
 
 /// Why no token stands at a place.
 #[derive(Clone, Copy, Debug, PartialEq, Eq)]
 pub enum Wrong {
-    BadToken,
-    BadNumber,
-    TooWide,
-    OpenString,
+    /// The text is wrong there.
+    Bad(FaultKind),
+    /// Out of memory.
     Memory,
+}
+
+impl From<FaultKind> for Wrong {
+    ghost use Rattle.std.specs.Prelude.{◌≡◌};
+    ghost use Rattle.vl_lex.specs.declared.faults.Wrong.TheVariants.{Bad};
+
+    ghost from_gives = { λ kind wrong. wrong ≡ Bad kind };
+
+    fn from(kind: FaultKind) -> Wrong {
+        Wrong::Bad(kind)
+    }
 }
 
 impl Wrong {
     /// The same as the fault of a text.
-    pub fn on_line(self, line: u32) -> LexFault
+    pub fn on_line(self, line: u32) -> StaticFault
         ensures { result ≡ fault_on self line }
     {
         match self {
-            Wrong::BadToken => LexFault::BadToken { line },
-            Wrong::BadNumber => LexFault::BadNumber { line },
-            Wrong::TooWide => LexFault::TooWide { line },
-            Wrong::OpenString => LexFault::OpenString { line },
-            Wrong::Memory => LexFault::Memory,
+            Wrong::Bad(kind) => in_tokens(kind, line),
+            Wrong::Memory => StaticFault::Memory,
         }
     }
+}
+
+/// A fault of tokens, which is phase 2, on this line.
+pub fn in_tokens(kind: FaultKind, line: u32) -> StaticFault
+    ensures { result ≡ on_line 2 line kind }
+{
+    StaticFault::on_line(2, line, kind)
 }

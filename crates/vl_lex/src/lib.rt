@@ -8,13 +8,13 @@
 
 ghost use Rattle.std.specs.Prelude.{◌≡◌, ◌^◌, ◌≤◌, ◌<◌, ◌∷◌, ℕ, List, length, Ok, IfOk, IfErr};
 ghost use Rattle.vl_tree.specs.Token.{all_coded};
+ghost use Rattle.vl_tree.specs.Fault.{HasFault, fault_of};
 ghost use Rattle.vl_pre.specs.Bytes.{joined};
 ghost use Rattle.vl_lex.specs.Tokens.{tokens_of, piece_at};
-ghost use Rattle.vl_lex.specs.Spelled.{ComputesTokens, HaveOneList, TakesLongest};
-ghost use Rattle.vl_lex.specs.Reading.{IsFirst, Pushes, Takes, Steps};
+ghost use Rattle.vl_lex.specs.Laws.Spelled.{ComputesTokens, HaveOneList, TakesLongest};
+ghost use Rattle.vl_lex.specs.Calls.Reading.{Pushes, Takes, Steps};
 
 mod attributes;
-mod bytes;
 mod digits;
 mod faults;
 mod numbers;
@@ -24,27 +24,28 @@ mod tokens;
 mod words;
 
 use dt_core::limits::MAX_TOKENS;
-pub use faults::LexFault;
+use faults::in_tokens;
 use pieces::{Piece, read_piece};
 use std::alloc::Global;
 use vl_pre::Clean;
+use vl_tree::fault::{FaultKind, StaticFault};
 use vl_tree::token::Token;
 
 // Appends a token, unless there are as many as there may be.
-fn push(tokens: &mut Vec<Token>, token: Token) -> Result<(), LexFault>
+fn push(tokens: &mut Vec<Token>, token: Token) -> Result<(), StaticFault>
     ensures { Pushes tokens.old.items token tokens.new.items result }
 {
     if tokens.len() >= MAX_TOKENS as usize {
-        return Err(LexFault::TooManyTokens { line: token.line });
+        return Err(in_tokens(FaultKind::TooManyTokens, token.line));
     }
     match tokens.push(token) {
         Ok(()) => Ok(()),
-        Err(_) => Err(LexFault::Memory),
+        Err(_) => Err(StaticFault::Memory),
     }
 }
 
 // Appends the token of a piece that begins on this line, if it has one, and answers how many bytes the piece has.
-fn take(tokens: &mut Vec<Token>, line: u32, piece: Piece) -> Result<usize, LexFault>
+fn take(tokens: &mut Vec<Token>, line: u32, piece: Piece) -> Result<usize, StaticFault>
     ensures { Takes tokens.old.items line piece.token piece.used tokens.new.items result }
 {
     let used = piece.used;
@@ -59,7 +60,12 @@ fn take(tokens: &mut Vec<Token>, line: u32, piece: Piece) -> Result<usize, LexFa
 }
 
 // Takes the piece at the head of these bytes, which begin on this line, and answers how many bytes it has.
-fn step(alloc: Global, tokens: &mut Vec<Token>, line: u32, bytes: &[u8]) -> Result<usize, LexFault>
+fn step(
+    alloc: Global,
+    tokens: &mut Vec<Token>,
+    line: u32,
+    bytes: &[u8],
+) -> Result<usize, StaticFault>
     requires some { 0 < length bytes.now }
     ensures steps { Steps tokens.old.items line (piece_at bytes.now) tokens.new.items result }
     ensures used { IfOk result (λ n. (0 < n) × (n ≤ length bytes.now)) }
@@ -71,10 +77,10 @@ fn step(alloc: Global, tokens: &mut Vec<Token>, line: u32, bytes: &[u8]) -> Resu
 }
 
 // The tokens of bytes with a line for each.
-fn lex_lines(alloc: Global, bytes: &[u8], lines: &[u32]) -> Result<Vec<Token>, LexFault>
+fn lex_lines(alloc: Global, bytes: &[u8], lines: &[u32]) -> Result<Vec<Token>, StaticFault>
     requires { length bytes.now ≡ length lines.now }
     ensures tokens { IfOk result (λ v. tokens_of (joined bytes.now lines.now) ≡ Ok (all_coded v.items)) }
-    ensures fault { IfErr result (λ e. IsFirst (tokens_of (joined bytes.now lines.now)) e) }
+    ensures fault { IfErr result (λ e. HasFault (tokens_of (joined bytes.now lines.now)) (fault_of e)) }
 {
     let mut tokens = Vec::new(alloc);
     let mut at = 0;
@@ -85,9 +91,9 @@ fn lex_lines(alloc: Global, bytes: &[u8], lines: &[u32]) -> Result<Vec<Token>, L
 }
 
 /// The tokens of a clean text, or its first fault.
-pub fn lex(alloc: Global, clean: &Clean) -> Result<Vec<Token>, LexFault>
+pub fn lex(alloc: Global, clean: &Clean) -> Result<Vec<Token>, StaticFault>
     ensures tokens { IfOk result (λ v. tokens_of clean.now ≡ Ok (all_coded v.items)) }
-    ensures fault { IfErr result (λ e. IsFirst (tokens_of clean.now) e) }
+    ensures fault { IfErr result (λ e. HasFault (tokens_of clean.now) (fault_of e)) }
 {
     lex_lines(alloc, clean.bytes(), clean.lines())
 }

@@ -4,12 +4,12 @@ ghost use Rattle.std.specs.Prelude.{◌==◌, ◌≡◌, ◌+◌, ◌^◌, ◌�
 ghost use Rattle.std.specs.List.{prefix_len};
 ghost use Rattle.vl_lex.specs.Numbers as n;
 ghost use Rattle.vl_lex.specs.Digits.{value_of};
-ghost use Rattle.vl_lex.specs.Reading.{IsWidth, IsLiteral, IsFormat, Tells, format_of};
+ghost use Rattle.vl_lex.specs.Calls.Reading.{IsWidth, IsLiteral, IsFormat, Tells, format_of};
 
-use crate::bytes::{begins_name, behind, is_digit, next};
 use crate::digits::{Base, digits_value, is_digit_of, is_x, is_z, low_bits, wild_bits};
-use crate::faults::Wrong;
 use dt_core::limits::MAX_WIDTH;
+use vl_pre::bytes::{after, begins_name, is_digit, next};
+use vl_tree::fault::FaultKind;
 use vl_tree::token::Literal;
 
 /// What stands between the size and the digits of a based number, with how many bytes it has.
@@ -69,26 +69,26 @@ fn count_gaps(bytes: &[u8]) -> usize
     bytes.iter().take_while(|byte| **byte == b'_').count()
 }
 
-// How many bytes of digits stand behind a base: the first isn't `_`, and of digits a decimal `x` or `z` is alone.
+// How many bytes of digits stand after a base: the first isn't `_`, and of digits a decimal `x` or `z` is alone.
 fn digits_length(base: Base, bytes: &[u8]) -> usize
     ensures count { result ≡ n.digits_length base bytes.now }
     ensures within { result ≤ length bytes.now }
 {
     match next(bytes) {
-        Some((first, behind)) => digits_length_by(base, first, behind),
+        Some((first, after)) => digits_length_by(base, first, after),
         None => 0,
     }
 }
 
-// The same, by the first byte and those behind it.
-fn digits_length_by(base: Base, first: u8, behind: &[u8]) -> usize
-    ensures count { result ≡ n.digits_length base (first ∷ behind.now) }
-    ensures within { result ≤ length behind.now + 1 }
+// The same, by the first byte and those after it.
+fn digits_length_by(base: Base, first: u8, after: &[u8]) -> usize
+    ensures count { result ≡ n.digits_length base (first ∷ after.now) }
+    ensures within { result ≤ length after.now + 1 }
 {
     if is_digit_of(base, first) {
-        count_digits(base, behind) + 1
+        count_digits(base, after) + 1
     } else if is_x(first) || is_z(first) {
-        count_gaps(behind) + 1
+        count_gaps(after) + 1
     } else {
         0
     }
@@ -104,7 +104,7 @@ fn goes_on(bytes: &[u8]) -> bool
     }
 }
 
-// The base at the head, behind so many bytes of the format.
+// The base at the head, after so many bytes of the format.
 fn format_base(signed: bool, before: usize, bytes: &[u8]) -> Option<Format>
     requires { before < 3 }
     ensures format { IsFormat (n.format_base signed (before + 1) bytes.now) result }
@@ -118,13 +118,13 @@ fn format_base(signed: bool, before: usize, bytes: &[u8]) -> Option<Format>
     })
 }
 
-// `s` or not, and the base, behind an apostrophe.
+// `s` or not, and the base, after an apostrophe.
 fn format_sign(bytes: &[u8]) -> Option<Format>
     ensures format { IsFormat (n.format_sign bytes.now) result }
     ensures used { IfSome result (λ f. f.used ≤ 1 + length bytes.now) }
 {
     match next(bytes) {
-        Some((b's' | b'S', behind)) => format_base(true, 2, behind),
+        Some((b's' | b'S', after)) => format_base(true, 2, after),
         _ => format_base(false, 1, bytes),
     }
 }
@@ -135,24 +135,24 @@ fn format_at(bytes: &[u8]) -> Option<Format>
     ensures used { IfSome result (λ f. f.used ≤ length bytes.now) }
 {
     match next(bytes) {
-        Some((b'\'', behind)) => format_sign(behind),
+        Some((b'\'', after)) => format_sign(after),
         _ => None,
     }
 }
 
-// The number of these digits without a size, behind which stand those bytes.
-fn read_plain(digits: &[u8], rest: &[u8]) -> Result<Number, Wrong>
+// The number of these digits without a size, after which stand those bytes.
+fn read_plain(digits: &[u8], rest: &[u8]) -> Result<Number, FaultKind>
     ensures tells { Tells (n.plain_number digits.now rest.now) result }
     ensures used { IfOk result (λ x. x.used ≡ length digits.now) }
 {
     if goes_on(rest) {
-        return Err(Wrong::BadNumber);
+        return Err(FaultKind::BadNumber);
     }
     let Some(value) = digits_value(10, digits) else {
-        return Err(Wrong::BadNumber);
+        return Err(FaultKind::BadNumber);
     };
     if value >= 4_294_967_296 {
-        return Err(Wrong::BadNumber);
+        return Err(FaultKind::BadNumber);
     }
     Ok(Number {
         literal: Literal {
@@ -167,28 +167,28 @@ fn read_plain(digits: &[u8], rest: &[u8]) -> Result<Number, Wrong>
 }
 
 // The width that a size gives.
-fn width_of(size: &[u8]) -> Result<u32, Wrong>
+fn width_of(size: &[u8]) -> Result<u32, FaultKind>
     ensures { IsWidth (value_of 10 size.now) result }
 {
     let Some(width) = digits_value(10, size) else {
-        return Err(Wrong::TooWide);
+        return Err(FaultKind::TooWide);
     };
     if width == 0 {
-        return Err(Wrong::BadNumber);
+        return Err(FaultKind::BadNumber);
     }
     if width > u128::from(MAX_WIDTH) {
-        return Err(Wrong::TooWide);
+        return Err(FaultKind::TooWide);
     }
     Ok(width as u32)
 }
 
 // The literal of this width and these digits.
-fn sized_literal(width: u32, signed: bool, base: Base, digits: &[u8]) -> Result<Literal, Wrong>
-    requires { (1 ≤ width) × (width ≤ 128) }
+fn sized_literal(width: u32, signed: bool, base: Base, digits: &[u8]) -> Result<Literal, FaultKind>
+    requires { (1 ≤ width) × (width ≤ MAX_WIDTH) }
     ensures { IsLiteral (n.sized_literal width signed base digits.now) result }
 {
     let Some(value) = digits_value(base.radix(), digits) else {
-        return Err(Wrong::TooWide);
+        return Err(FaultKind::TooWide);
     };
     Ok(Literal {
         width,
@@ -200,14 +200,14 @@ fn sized_literal(width: u32, signed: bool, base: Base, digits: &[u8]) -> Result<
 }
 
 // The literal of these digits without a size.
-fn unsized_literal(signed: bool, base: Base, digits: &[u8]) -> Result<Literal, Wrong>
+fn unsized_literal(signed: bool, base: Base, digits: &[u8]) -> Result<Literal, FaultKind>
     ensures { IsLiteral (n.unsized_literal signed base digits.now) result }
 {
     let Some(value) = digits_value(base.radix(), digits) else {
-        return Err(Wrong::TooWide);
+        return Err(FaultKind::TooWide);
     };
     if value >= 4_294_967_296 {
-        return Err(Wrong::TooWide);
+        return Err(FaultKind::TooWide);
     }
     Ok(Literal {
         width: 32,
@@ -219,7 +219,7 @@ fn unsized_literal(signed: bool, base: Base, digits: &[u8]) -> Result<Literal, W
 }
 
 // The literal of this size, which may be empty, and these digits.
-fn literal_of(size: &[u8], signed: bool, base: Base, digits: &[u8]) -> Result<Literal, Wrong>
+fn literal_of(size: &[u8], signed: bool, base: Base, digits: &[u8]) -> Result<Literal, FaultKind>
     ensures { IsLiteral (n.literal_of_size size.now signed base digits.now) result }
 {
     if size.is_empty() {
@@ -230,7 +230,7 @@ fn literal_of(size: &[u8], signed: bool, base: Base, digits: &[u8]) -> Result<Li
 }
 
 // The number of this size and format, whose digits stand at the head of these bytes.
-fn read_based(size: &[u8], format: Format, bytes: &[u8]) -> Result<Number, Wrong>
+fn read_based(size: &[u8], format: Format, bytes: &[u8]) -> Result<Number, FaultKind>
     requires { length size.now + format.used + length bytes.now < 2 ^ 63 }
     ensures tells { Tells (n.based_number size.now (format_of format) bytes.now) result }
     ensures used { IfOk result (λ x. (0 < x.used) × (x.used ≤ length size.now + format.used + length bytes.now)) }
@@ -238,7 +238,7 @@ fn read_based(size: &[u8], format: Format, bytes: &[u8]) -> Result<Number, Wrong
     let count = digits_length(format.base, bytes);
     let (digits, rest) = bytes.split_at(count);
     if count == 0 || goes_on(rest) {
-        return Err(Wrong::BadNumber);
+        return Err(FaultKind::BadNumber);
     }
     let literal = literal_of(size, format.signed, format.base, digits)?;
     Ok(Number {
@@ -248,16 +248,16 @@ fn read_based(size: &[u8], format: Format, bytes: &[u8]) -> Result<Number, Wrong
 }
 
 /// The number at the head.
-pub fn read_number(bytes: &[u8]) -> Result<Number, Wrong>
+pub fn read_number(bytes: &[u8]) -> Result<Number, FaultKind>
     ensures tells { Tells (n.number_at bytes.now) result }
     ensures used { IfOk result (λ x. (0 < x.used) × (x.used ≤ length bytes.now)) }
 {
     let (size, rest) = bytes.split_at(count_decimal(bytes));
     if let Some(format) = format_at(rest) {
-        return read_based(size, format, behind(rest, format.used));
+        return read_based(size, format, after(rest, format.used));
     }
     if size.is_empty() {
-        return Err(Wrong::BadToken);
+        return Err(FaultKind::BadToken);
     }
     read_plain(size, rest)
 }

@@ -2,13 +2,14 @@
 
 ghost use Rattle.std.specs.Prelude.{◌≡◌, ◌^◌, ◌≤◌, ◌<◌, ◌∷◌, ℕ, List, length, IfOk};
 ghost use Rattle.vl_lex.specs.Tokens as t;
-ghost use Rattle.vl_lex.specs.Reading.{Stands, StandsAlone};
+ghost use Rattle.vl_lex.specs.Calls.Reading.{Stands, StandsAlone};
 
 use crate::attributes::{close_length, opens_attribute};
-use crate::bytes::{behind, is_white};
 use crate::faults::Wrong;
 use crate::tokens::read_token;
 use std::alloc::Global;
+use vl_pre::bytes::{after, is_white};
+use vl_tree::fault::FaultKind;
 use vl_tree::token::TokenKind;
 
 /// A piece of a text: a token, or what is passed over, and how many bytes it has.
@@ -19,17 +20,17 @@ pub struct Piece {
 }
 
 // The attribute at the head.
-fn read_attribute(bytes: &[u8]) -> Result<Piece, Wrong>
+fn read_attribute(bytes: &[u8]) -> Result<Piece, FaultKind>
     requires opens { 2 ≤ length bytes.now }
     ensures stands { StandsAlone (t.piece_by t.attribute bytes.now) result }
     ensures used { IfOk result (λ p. (0 < p.used) × (p.used ≤ length bytes.now)) }
 {
-    match close_length(behind(bytes, 2)) {
+    match close_length(after(bytes, 2)) {
         Some(count) => Ok(Piece {
             token: None,
             used: count + 2,
         }),
-        None => Err(Wrong::BadToken),
+        None => Err(FaultKind::BadToken),
     }
 }
 
@@ -46,7 +47,7 @@ pub fn read_piece(alloc: Global, first: u8, bytes: &[u8]) -> Result<Piece, Wrong
         });
     }
     if opens_attribute(bytes) {
-        return read_attribute(bytes);
+        return Ok(read_attribute(bytes)?);
     }
     match read_token(alloc, first, bytes) {
         Ok(found) => Ok(Piece {

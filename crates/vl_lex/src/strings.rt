@@ -3,13 +3,14 @@
 ghost use Rattle.std.specs.Prelude.{◌≡◌, ◌+◌, ◌^◌, ◌≤◌, ◌<◌, ◌∷◌, length, take, IfOk, IfSome};
 ghost use Rattle.std.specs.List.{prefix_len};
 ghost use Rattle.vl_lex.specs.Strings as s;
-ghost use Rattle.vl_lex.specs.Reading.{IsCharacter, IsCharacterOrEnd, Quotes};
+ghost use Rattle.vl_lex.specs.Calls.Reading.{IsCharacter, IsCharacterOrEnd, Quotes};
 
-use crate::bytes::{behind, next};
 use crate::digits::digits_value;
 use crate::faults::Wrong;
 use dt_core::text::Text;
 use std::alloc::Global;
+use vl_pre::bytes::{after, ends_line, next};
+use vl_tree::fault::FaultKind;
 
 /// A byte of a string and how many bytes spell it.
 #[derive(Clone, Copy)]
@@ -18,7 +19,7 @@ pub struct Character {
     pub used: usize,
 }
 
-/// A string and how many bytes its spelling has behind its first quote.
+/// A string and how many bytes its spelling has after its first quote.
 #[derive(Drop)]
 pub struct Quoted {
     pub text: Text,
@@ -80,24 +81,28 @@ fn escape(bytes: &[u8]) -> Option<Character>
     octal_escape(bytes)
 }
 
-// The text is over, or a line's end comes: LF, or CR and LF.
-fn ends_line(bytes: &[u8]) -> bool
-    ensures { result ≡ s.ends_line bytes.now }
+// Why no escape stands after a backslash.
+fn no_escape(bytes: &[u8]) -> FaultKind
+    ensures { result ≡ s.no_escape bytes.now }
 {
-    bytes.is_empty() || bytes.starts_with(b"\n") || bytes.starts_with(b"\r\n")
+    if bytes.is_empty() {
+        FaultKind::OpenString
+    } else {
+        FaultKind::BadToken
+    }
 }
 
 // The character of a string at the head: a byte, or none at the closing quote.
-fn character_at(bytes: &[u8]) -> Result<Option<Character>, Wrong>
+fn character_at(bytes: &[u8]) -> Result<Option<Character>, FaultKind>
     ensures character { IsCharacterOrEnd (s.character_at bytes.now) result }
     ensures used { IfOk result (λ o. IfSome o (λ p. (0 < p.used) × (p.used ≤ length bytes.now))) }
     ensures some { IfOk result (λ o. 0 < length bytes.now) }
 {
     if ends_line(bytes) {
-        return Err(Wrong::OpenString);
+        return Err(FaultKind::OpenString);
     }
-    let Some((first, behind)) = next(bytes) else {
-        return Err(Wrong::OpenString);
+    let Some((first, after)) = next(bytes) else {
+        return Err(FaultKind::OpenString);
     };
     if first == b'"' {
         return Ok(None);
@@ -108,16 +113,16 @@ fn character_at(bytes: &[u8]) -> Result<Option<Character>, Wrong>
             used: 1,
         }));
     }
-    match escape(behind) {
+    match escape(after) {
         Some(character) => Ok(Some(Character {
             byte: character.byte,
             used: character.used + 1,
         })),
-        None => Err(Wrong::BadToken),
+        None => Err(no_escape(after)),
     }
 }
 
-/// The string behind its first quote.
+/// The string after its first quote.
 pub fn read_string(alloc: Global, bytes: &[u8]) -> Result<Quoted, Wrong>
     ensures quotes { Quotes (s.string_at bytes.now) result }
     ensures used { IfOk result (λ x. (0 < x.used) × (x.used ≤ length bytes.now)) }
@@ -130,7 +135,7 @@ pub fn read_string(alloc: Global, bytes: &[u8]) -> Result<Quoted, Wrong>
         if text.push(character.byte).is_err() {
             return Err(Wrong::Memory);
         }
-        rest = behind(rest, character.used);
+        rest = after(rest, character.used);
     }
     Ok(Quoted {
         text,

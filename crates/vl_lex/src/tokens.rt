@@ -4,12 +4,12 @@ ghost use Rattle.std.specs.Prelude.{◌≡◌, ◌+◌, ◌^◌, ◌≤◌, ◌<
 ghost use Rattle.vl_tree.specs.Token.{coded_kind};
 ghost use Rattle.vl_pre.specs.Bytes as b;
 ghost use Rattle.vl_lex.specs.Words.{marks};
+ghost use Rattle.std.specs.List.{prefix_len};
 ghost use Rattle.vl_lex.specs.Tokens as t;
 ghost use Rattle.vl_lex.specs.Numbers.{number_at};
 ghost use Rattle.vl_lex.specs.Strings.{string_at};
-ghost use Rattle.vl_lex.specs.Reading.{Spells, SpellsAlone};
+ghost use Rattle.vl_lex.specs.Calls.Reading.{Spells, SpellsAlone};
 
-use crate::bytes::{begins_name, behind, escaped_length, is_digit, name_length};
 use crate::faults::Wrong;
 use crate::numbers::read_number;
 use crate::strings::read_string;
@@ -18,6 +18,8 @@ use dt_core::fault::NoMemory;
 use dt_core::limits::MAX_NAME;
 use dt_core::text::Text;
 use std::alloc::Global;
+use vl_pre::bytes::{after, begins_name, is_digit, name_length};
+use vl_tree::fault::FaultKind;
 use vl_tree::token::{System, TokenKind};
 
 /// What a token is, and how many bytes its spelling has.
@@ -25,6 +27,23 @@ use vl_tree::token::{System, TokenKind};
 pub struct Found {
     pub kind: TokenKind,
     pub used: usize,
+}
+
+fn is_in_escaped_name(byte: u8) -> bool
+    ensures { result ≡ t.is_in_escaped byte }
+{
+    byte >= 33 && byte <= 126
+}
+
+// How many bytes the escaped name after a backslash has.
+fn escaped_length(bytes: &[u8]) -> usize
+    ensures count { result ≡ prefix_len t.is_in_escaped bytes.now }
+    ensures within { result ≤ length bytes.now }
+{
+    bytes
+        .iter()
+        .take_while(|byte| is_in_escaped_name(**byte))
+        .count()
 }
 
 // A keyword or a name.
@@ -45,7 +64,7 @@ fn read_name(alloc: Global, bytes: &[u8]) -> Result<Found, Wrong>
 {
     let used = name_length(bytes);
     if used > MAX_NAME {
-        return Err(Wrong::BadToken);
+        return Err(Wrong::Bad(FaultKind::BadToken));
     }
     match word_kind(alloc, bytes.split_at(used).0) {
         Ok(kind) => Ok(Found { kind, used }),
@@ -53,14 +72,14 @@ fn read_name(alloc: Global, bytes: &[u8]) -> Result<Found, Wrong>
     }
 }
 
-// The escaped name behind its backslash.
+// The escaped name after its backslash.
 fn read_escaped(alloc: Global, bytes: &[u8]) -> Result<Found, Wrong>
     ensures spells { Spells (t.escaped_token bytes.now) result }
     ensures used { IfOk result (λ f. (0 < f.used) × (f.used ≤ length bytes.now + 1)) }
 {
     let count = escaped_length(bytes);
     if count == 0 || count > MAX_NAME {
-        return Err(Wrong::BadToken);
+        return Err(Wrong::Bad(FaultKind::BadToken));
     }
     match Text::copied(alloc, bytes.split_at(count).0) {
         Ok(name) => Ok(Found {
@@ -71,14 +90,14 @@ fn read_escaped(alloc: Global, bytes: &[u8]) -> Result<Found, Wrong>
     }
 }
 
-// The system name behind its `$`.
-fn read_system(bytes: &[u8]) -> Result<Found, Wrong>
+// The system name after its `$`.
+fn read_system(bytes: &[u8]) -> Result<Found, FaultKind>
     ensures spells { SpellsAlone (t.system_token bytes.now) result }
     ensures used { IfOk result (λ f. (0 < f.used) × (f.used ≤ length bytes.now + 1)) }
 {
     let count = name_length(bytes);
     if count == 0 || count > MAX_NAME {
-        return Err(Wrong::BadToken);
+        return Err(FaultKind::BadToken);
     }
     let system = system_name(bytes.split_at(count).0).unwrap_or(System::Other);
     Ok(Found {
@@ -88,12 +107,12 @@ fn read_system(bytes: &[u8]) -> Result<Found, Wrong>
 }
 
 // The mark at the head.
-fn read_mark(bytes: &[u8]) -> Result<Found, Wrong>
+fn read_mark(bytes: &[u8]) -> Result<Found, FaultKind>
     ensures spells { SpellsAlone (t.mark_token marks bytes.now) result }
     ensures used { IfOk result (λ f. (0 < f.used) × (f.used ≤ length bytes.now)) }
 {
     let Some((mark, used)) = mark_at(bytes) else {
-        return Err(Wrong::BadToken);
+        return Err(FaultKind::BadToken);
     };
     Ok(Found {
         kind: TokenKind::Mark(mark),
@@ -102,7 +121,7 @@ fn read_mark(bytes: &[u8]) -> Result<Found, Wrong>
 }
 
 // The number at the head.
-fn read_number_token(bytes: &[u8]) -> Result<Found, Wrong>
+fn read_number_token(bytes: &[u8]) -> Result<Found, FaultKind>
     ensures spells { SpellsAlone (t.number_token (number_at bytes.now)) result }
     ensures used { IfOk result (λ f. (0 < f.used) × (f.used ≤ length bytes.now)) }
 {
@@ -113,7 +132,7 @@ fn read_number_token(bytes: &[u8]) -> Result<Found, Wrong>
     })
 }
 
-// The string behind its first quote.
+// The string after its first quote.
 fn read_string_token(alloc: Global, bytes: &[u8]) -> Result<Found, Wrong>
     ensures spells { Spells (t.string_token (string_at bytes.now)) result }
     ensures used { IfOk result (λ f. (0 < f.used) × (f.used ≤ length bytes.now + 1)) }
@@ -137,16 +156,19 @@ pub fn read_token(alloc: Global, first: u8, bytes: &[u8]) -> Result<Found, Wrong
         return read_name(alloc, bytes);
     }
     if is_digit(first) || first == b'\'' {
-        return read_number_token(bytes);
+        return Ok(read_number_token(bytes)?);
     }
     if first == b'$' {
-        return read_system(behind(bytes, 1));
+        return Ok(read_system(after(bytes, 1))?);
     }
     if first == b'\\' {
-        return read_escaped(alloc, behind(bytes, 1));
+        return read_escaped(alloc, after(bytes, 1));
     }
     if first == b'"' {
-        return read_string_token(alloc, behind(bytes, 1));
+        return read_string_token(alloc, after(bytes, 1));
     }
-    read_mark(bytes)
+    match read_mark(bytes) {
+        Ok(found) => Ok(found),
+        Err(kind) => Err(Wrong::Bad(kind)),
+    }
 }

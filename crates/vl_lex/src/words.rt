@@ -2,8 +2,10 @@
 
 ghost use Rattle.std.specs.Prelude.{◌≡◌, ◌≤◌, ◌<◌, length};
 ghost use Rattle.vl_lex.specs.Words as w;
-ghost use Rattle.vl_lex.specs.Reading.{pairs, FindsMark};
+ghost use Rattle.vl_pre.specs.Tables.{entry, pairs};
+ghost use Rattle.vl_lex.specs.Calls.Reading.{FindsMark};
 
+use vl_pre::tables::find;
 use vl_tree::token::{Key, Mark, System};
 
 static KEYS: [(&[u8], Key); 56] = [
@@ -124,28 +126,16 @@ static SYSTEMS: [(&[u8], System); 8] = [
     (b"clog2", System::Clog2),
 ];
 
-// What the first of these entries under the word stands for.
-fn find<T: Copy>(entries: &[(&[u8], T)], word: &[u8]) -> Option<T>
-    ensures { result ≡ w.entry (pairs entries.now) word.now }
-{
-    for entry in entries {
-        if entry.0 == word {
-            return Some(entry.1);
-        }
-    }
-    None
-}
-
 /// The keyword that the word is, if it is one.
 pub fn keyword(word: &[u8]) -> Option<Key>
-    ensures { result ≡ w.entry w.keys word.now }
+    ensures { result ≡ entry w.keys word.now }
 {
     find(KEYS.as_slice(), word)
 }
 
 /// The system name that the word is, if a rule uses it.
 pub fn system_name(word: &[u8]) -> Option<System>
-    ensures { result ≡ w.entry w.systems word.now }
+    ensures { result ≡ entry w.systems word.now }
 {
     find(SYSTEMS.as_slice(), word)
 }

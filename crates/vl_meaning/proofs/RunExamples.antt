@@ -37,7 +37,7 @@ r_is n = cell (codes "r") n ∷ []
 abbrev hit : List Fired
 hit = record { line = 9; message = codes "r hit 9\n" } ∷ []
 
--- it counts from 0 where enabled, is kept where not, reset by rst, and is 0 again behind 15
+-- it counts from 0 where enabled, is kept where not, reset by rst, and is 0 again after 15
 starts_at_zero : initial counter ≡ r_is 0
 starts_at_zero = refl
 
@@ -181,7 +181,7 @@ text_before_the_write = refl
 
 -- ---- static faults
 
--- a module with other ports behind its clock, and no statement
+-- a module with other ports after its clock, and no statement
 abbrev with_ports : List Port → Module
 with_ports ps = record { name = codes "m"; ports = input (codes "clk") ∷ ps; clock = codes "clk"; body = no_stmt }
 

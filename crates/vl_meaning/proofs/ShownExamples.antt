@@ -27,7 +27,7 @@ counter_numbers = refl
 counter_shown : shown counter (0 ∷ 1 ∷ []) (cell (codes "r") 8 ∷ []) ≡ 0 ∷ 0 ∷ 1 ∷ 8 ∷ []
 counter_shown = refl
 
--- in a cycle its register has the value before the block, and behind 15 it is 0 again
+-- in a cycle its register has the value before the block, and after 15 it is 0 again
 counter_at_nine : shown_at counter (replicate 26 (0 ∷ 1 ∷ [])) 9 ≡ 0 ∷ 0 ∷ 1 ∷ 9 ∷ []
 counter_at_nine = refl
 

@@ -1,5 +1,5 @@
 -- The execution of a statement (IEEE 1364-2005, 9.2.2, 9.4 and 9.8.1; `$display` 17.1.1): its nonblocking writes and its events, in order.
--- A nonblocking assignment is only listed, so all statements of a block read the same values. That `$stop` is an assertion, behind which
+-- A nonblocking assignment is only listed, so all statements of a block read the same values. That `$stop` is an assertion, after which
 -- the block goes on, is this project's own.
 use Rattle.std.specs.Prelude.{ℕ, true, false, if◌then◌else◌, List, [], ◌∷◌, ◌++◌, Option, Some, None, bytes_eq}
 use Rattle.bit_ops.specs.Operators.{holds}

@@ -1,4 +1,4 @@
--- What is left of a rule behind its first parts.
+-- What is left of a rule after its first parts.
 use Rattle.std.proofs.Common.{◌+◌, ℕ, List}
 use Rattle.std.specs.Prelude.{Option}
 use Rattle.vl_tree.specs.declared.token.Key.TheVariants as w

@@ -56,7 +56,7 @@ module _ (d : ℕ) (ts : Tokens) where
 
 -- ---- the list of ports
 
--- what comes behind a port
+-- what comes after a port
 abbrev pub more_end : List Port → Tokens → Tokens → Type 0
 more_end ps = more_ports_at 1 ps then closing 0
 
@@ -172,7 +172,7 @@ module _ (ts : Tokens) where
           took_as M0 module_at Any module_tree ts module_out module_into (x, y) rest (took_pair header_at M1 ts x us h y rest
           (took_trail (clocked_at 1) Any (word 0 w.Endmodule) (λ a z c. tt) us y vs p rest q))
 
--- ---- lists of the code so far, and what comes behind them
+-- ---- lists of the code so far, and what comes after them
 
 pub map-one : {A B : Type 0} (f : A → B) (xs : List A) (a : A) (more : List B) → map f (xs ++ a ∷ []) ++ more ≡ map f xs ++ (f a ∷ more)
 map-one f [] a more = refl

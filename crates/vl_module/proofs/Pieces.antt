@@ -1,4 +1,4 @@
--- How the answers for two parts make the answer for both, one behind the other.
+-- How the answers for two parts make the answer for both, one after the other.
 use Rattle.std.proofs.Common.{◌≡◌, ◌≤◌, ℕ, ◌∷◌, List, refl, sym, ◌∙◌, ap, subst, Ok, Err}
 use Rattle.std.specs.Prelude.{Result, IsErrAnd}
 use denote.Ref.{Bor}

@@ -230,7 +230,7 @@ module _ (d : ℕ) (ts : Tokens) where
     pub arm_took : (x : Branches × Otherwise) (rest : Tokens) → Took (more_arms d) Any x us rest → Took (arms_at d) Any (more_branch b.0 b.1 x.0, x.1) ts rest
     arm_took x rest q = took_as (Arm d) (arms_at d) Any arm_of ts (λ u. arm_out u.0 u.1) arm_into (b, x) rest (took_pair (branch_at d) (more_arms d) ts b us p x rest q)
 
--- ---- behind a branch
+-- ---- after a branch
 
 no_else_next : (d : ℕ) (ts : Tokens) → d ≤ 200 → NoTree (one (word d w.Else)) Any ts → NoElse ts
 no_else_next d [] low f = tt

@@ -46,7 +46,7 @@ stmt-display f n = search (rules, the_lemmas)
 pub stmt-stop : (line : ℕ) → stmt (s.Stop line) ≡ stop line
 stmt-stop line = search (rules, the_lemmas)
 
--- ---- lists of the code so far, and what comes behind them
+-- ---- lists of the code so far, and what comes after them
 
 abbrev pub stmts_on : List Code → Stmts → Stmts
 stmts_on [] more = more

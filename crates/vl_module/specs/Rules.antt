@@ -77,7 +77,7 @@ branch_at d x = condition_at d x.0 then stmt_at (d + 1) x.1
 abbrev pub branch_of : branch_code.Branch stmt_code.Stmt → Expr × Stmt
 branch_of b = (view.expr b.condition, view.stmt b.body)
 
--- what comes behind a branch
+-- what comes after a branch
 abbrev pub more_arms : ℕ → Branches × Otherwise → Piece
 more_arms d x = branches_at d x.0 then otherwise_at d x.1
 

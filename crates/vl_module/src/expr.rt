@@ -35,7 +35,7 @@ fn binary_of(mark: Mark) -> Option<Binary>
     }
 }
 
-// The operator before an operand that comes first, and the tokens behind it.
+// The operator before an operand that comes first, and the tokens after it.
 fn first_unary(tokens: &[Token], depth: u32) -> Option<(Unary, &[Token])>
     ensures reads { FindsTree (λ op. op) (operator_at unary_mark depth) (all_coded tokens.now) result }
     ensures shorter { IfSome result (λ x. length x.1.now < length tokens.now) }
@@ -46,7 +46,7 @@ fn first_unary(tokens: &[Token], depth: u32) -> Option<(Unary, &[Token])>
     Some((operator, rest))
 }
 
-// The operator between operands that comes first, and the tokens behind it.
+// The operator between operands that comes first, and the tokens after it.
 fn first_binary(tokens: &[Token], depth: u32) -> Option<(Binary, &[Token])>
     ensures reads { FindsTree (λ op. op) (operator_at binary_mark depth) (all_coded tokens.now) result }
     ensures shorter { IfSome result (λ x. length x.1.now < length tokens.now) }
@@ -78,7 +78,7 @@ pub fn read_primary(
     }
 }
 
-/// An expression, behind which no operator comes.
+/// An expression, after which no operator comes.
 pub fn read_expr(alloc: Global, tokens: &[Token], depth: u32) -> Result<(Expr, &[Token]), SynFault>
     ensures reads { Reads view.expr (expr_at depth) Ends (all_coded tokens.now) result }
     ensures shorter { IfOk result (λ x. length x.1.now < length tokens.now) }

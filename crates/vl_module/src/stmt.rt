@@ -116,7 +116,7 @@ pub fn read_block(
     }
 }
 
-// The branches of an `if` and its last `else`. The last `else` has no `if` behind it, which would begin one branch more.
+// The branches of an `if` and its last `else`. The last `else` has no `if` after it, which would begin one branch more.
 #[cycle(stmt)]
 fn read_conditional(
     alloc: Global,
@@ -143,7 +143,7 @@ fn read_conditional(
     }
 }
 
-// A condition and the statement behind it.
+// A condition and the statement after it.
 #[cycle(stmt)]
 fn read_branch(
     alloc: Global,
@@ -214,7 +214,7 @@ fn read_shown(
     }
 }
 
-/// The tokens behind `)` and `;`, which come first.
+/// The tokens after `)` and `;`, which come first.
 pub fn expect_closing(tokens: &[Token], depth: u32) -> Result<&[Token], SynFault>
     ensures reads { Expects (closing depth) (all_coded tokens.now) result }
     ensures certain { IfErr result (λ e. e ≡ fault.NoTree) }

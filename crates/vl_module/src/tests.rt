@@ -149,7 +149,7 @@ if ( rst ) r <= 0 ; else if ( en ) r <= r + 1 ;
 if ( r == 9 ) begin $display ( \"hit , r ) ; $stop ; end
 end endmodule";
 
-// Whether the tokens are a module. Want of memory fails the test, since no clause tells it from a refusal.
+// Whether the tokens are a module. Out of memory fails the test, since no clause tells it from a refusal.
 fn is_module(alloc: Global, tokens: &[Token]) -> Result<bool, SynFault> {
     match parse_module(alloc, tokens) {
         Ok(_) => Ok(true),

@@ -1,4 +1,4 @@
-//! Single tokens: the one that comes first, at the depth where it stands, and those behind it.
+//! Single tokens: the one that comes first, at the depth where it stands, and those after it.
 
 ghost use Rattle.std.specs.Prelude.{ℕ, ◌≡◌, ◌∷◌, ◌<◌, ◌≤◌, ◌↔◌, IsTrue, IfOk, IfErr, IfSome, MatchOption, length};
 ghost use Rattle.vl_tree.specs.Token.{all_coded, literal_of};
@@ -34,7 +34,7 @@ fn same_system(a: System, b: System) -> bool
     a == b
 }
 
-/// The first token and those behind it, if a token may stand at this depth.
+/// The first token and those after it, if a token may stand at this depth.
 pub fn next(tokens: &[Token], depth: u32) -> Option<(&Token, &[Token])>
     ensures first { MatchOption result (NoToken depth (all_coded tokens.now)) (λ x. tokens.now ≡ x.0.now ∷ x.1.now) }
     ensures shallow { IfSome result (λ x. depth ≤ 200) }
@@ -45,7 +45,7 @@ pub fn next(tokens: &[Token], depth: u32) -> Option<(&Token, &[Token])>
     tokens.split_first()
 }
 
-/// The tokens behind this keyword, if it comes first.
+/// The tokens after this keyword, if it comes first.
 pub fn behind_key(tokens: &[Token], depth: u32, wanted: Key) -> Option<&[Token]>
     ensures reads { Finds (word depth wanted) (all_coded tokens.now) result }
     ensures shorter { IfSome result (λ rest. length rest.now < length tokens.now) }
@@ -64,7 +64,7 @@ pub fn behind_key(tokens: &[Token], depth: u32, wanted: Key) -> Option<&[Token]>
     }
 }
 
-/// The tokens behind this mark, if it comes first.
+/// The tokens after this mark, if it comes first.
 pub fn behind_mark(tokens: &[Token], depth: u32, wanted: Mark) -> Option<&[Token]>
     ensures reads { Finds (mark depth wanted) (all_coded tokens.now) result }
     ensures shorter { IfSome result (λ rest. length rest.now < length tokens.now) }
@@ -83,7 +83,7 @@ pub fn behind_mark(tokens: &[Token], depth: u32, wanted: Mark) -> Option<&[Token
     }
 }
 
-/// The mark that comes first, and the tokens behind it.
+/// The mark that comes first, and the tokens after it.
 pub fn first_mark(tokens: &[Token], depth: u32) -> Option<(Mark, &[Token])>
     ensures reads { FindsTree (λ a. a) (mark depth) (all_coded tokens.now) result }
     ensures shorter { IfSome result (λ x. length x.1.now < length tokens.now) }
@@ -96,7 +96,7 @@ pub fn first_mark(tokens: &[Token], depth: u32) -> Option<(Mark, &[Token])>
     }
 }
 
-/// The tokens behind this keyword, which comes first.
+/// The tokens after this keyword, which comes first.
 pub fn expect_key(tokens: &[Token], depth: u32, wanted: Key) -> Result<&[Token], SynFault>
     ensures reads { Expects (word depth wanted) (all_coded tokens.now) result }
     ensures certain { IfErr result (λ e. e ≡ fault.NoTree) }
@@ -109,7 +109,7 @@ pub fn expect_key(tokens: &[Token], depth: u32, wanted: Key) -> Result<&[Token],
     }
 }
 
-/// The tokens behind this mark, which comes first.
+/// The tokens after this mark, which comes first.
 pub fn expect_mark(tokens: &[Token], depth: u32, wanted: Mark) -> Result<&[Token], SynFault>
     ensures reads { Expects (mark depth wanted) (all_coded tokens.now) result }
     ensures certain { IfErr result (λ e. e ≡ fault.NoTree) }
@@ -122,7 +122,7 @@ pub fn expect_mark(tokens: &[Token], depth: u32, wanted: Mark) -> Result<&[Token
     }
 }
 
-/// The line of this system name, which comes first, and the tokens behind it.
+/// The line of this system name, which comes first, and the tokens after it.
 pub fn read_system(
     tokens: &[Token],
     depth: u32,
@@ -148,7 +148,7 @@ pub fn read_system(
     }
 }
 
-/// The name that comes first, and the tokens behind it.
+/// The name that comes first, and the tokens after it.
 pub fn read_name(alloc: Global, tokens: &[Token], depth: u32) -> Result<(Text, &[Token]), SynFault>
     ensures reads { Reads (λ name. name) (name_at depth) Any (all_coded tokens.now) result }
     ensures shorter { IfOk result (λ x. length x.1.now < length tokens.now) }
@@ -166,7 +166,7 @@ pub fn read_name(alloc: Global, tokens: &[Token], depth: u32) -> Result<(Text, &
     }
 }
 
-/// The bytes of the string that comes first, and the tokens behind it.
+/// The bytes of the string that comes first, and the tokens after it.
 pub fn read_string(
     alloc: Global,
     tokens: &[Token],
@@ -188,7 +188,7 @@ pub fn read_string(
     }
 }
 
-/// The number that comes first, and the tokens behind it.
+/// The number that comes first, and the tokens after it.
 pub fn read_number(tokens: &[Token], depth: u32) -> Result<(Literal, &[Token]), SynFault>
     ensures reads { Reads literal_of (λ literal. kind depth (k.number literal)) Any (all_coded tokens.now) result }
     ensures certain { IfErr result (λ e. e ≡ fault.NoTree) }

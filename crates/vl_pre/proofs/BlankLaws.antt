@@ -5,13 +5,14 @@ use Rattle.std.specs.Prelude.{Option, Some, None, Result, Ok, Err}
 use Rattle.std.specs.Cmp.Lexicographic.{pointwise}
 use Rattle.indexmap.specs.IndexMap.{IndexMap, get}
 use Rattle.vl_pre.specs.Bytes.{Text, Placed, bytes, name_at, all_at, most_clean}
-use Rattle.vl_pre.specs.Pieces.{Head, line_comment, block_comment, a_string, escaped_name, a_backtick, any_other, Part, Fault, fault, unknown_macro, macro_depth, fails, before, go_on, go_by, first}
+use Rattle.vl_tree.specs.declared.fault.FaultKind.TheVariants.{UnknownMacro, MacroDepth}
+use Rattle.vl_pre.specs.Pieces.{Head, line_comment, block_comment, a_string, escaped_name, a_backtick, any_other, Part, Fault, fault, fails, before, go_on, go_by, first}
 use Rattle.vl_pre.specs.Directives.{Ticked, no_name, a_directive, a_macro, Macros, ticked}
 use Rattle.vl_pre.specs.CleanText.{body_tick, body_piece, body_reading, whole_body, expanded, use_of}
-use Rattle.vl_pre.specs.Reading.{IsBlank, is_from, KnowsBlanks, Notes, Wrote, Gives, EndsWith}
+use Rattle.vl_pre.specs.Calls.Reading.{IsBlank, is_from, KnowsBlanks, Notes, Wrote, Gives, EndsWith}
 use Rattle.std.proofs.lemmas.Bool.{leb-true}
 use Rattle.std.proofs.lemmas.Slice.Eq.{bytes_eq-Decides}
-use Rattle.vl_pre.specs.declared.fault.PreFault.{PreFault}
+use Rattle.vl_tree.specs.declared.fault.StaticFault.{StaticFault}
 use Rattle.vl_pre.proofs.WriteLaws.{goes}
 
 -- what is without fault has a first part without fault
@@ -51,13 +52,13 @@ no_fault : (f : Fault) (p : Part) → p.fault ≡ Some f → p.fault ≡ None �
 no_fault f p e h = let x : Some f ≡ None = sym e ∙ h in cc
 
 steady_zero : (m : Macros) (line : ℕ) (o : Option (List ℕ)) (name : List ℕ) → m name ≡ o → (use_of zero m line name).fault ≡ None → use_of (suc zero) m line name ≡ use_of zero m line name
-steady_zero m line None name e h = absurd (no_fault (fault unknown_macro line) (use_of zero m line name) (ap (λ x. (expanded line (λ body. fails macro_depth line) x).fault) e) h)
-steady_zero m line (Some body) name e h = absurd (no_fault (fault macro_depth line) (use_of zero m line name) (ap (λ x. (expanded line (λ body. fails macro_depth line) x).fault) e) h)
+steady_zero m line None name e h = absurd (no_fault (fault UnknownMacro line) (use_of zero m line name) (ap (λ x. (expanded line (λ body. fails MacroDepth line) x).fault) e) h)
+steady_zero m line (Some body) name e h = absurd (no_fault (fault MacroDepth line) (use_of zero m line name) (ap (λ x. (expanded line (λ body. fails MacroDepth line) x).fault) e) h)
 
 steady_suc : (k : ℕ) (m : Macros) (line : ℕ) (o : Option (List ℕ)) (name : List ℕ) → ((x : List ℕ) → (use_of k m line x).fault ≡ None → use_of (suc k) m line x ≡ use_of k m line x) → m name ≡ o
     → (use_of (suc k) m line name).fault ≡ None → use_of (suc (suc k)) m line name ≡ use_of (suc k) m line name
 steady_suc k m line None name same e h =
-    absurd (no_fault (fault unknown_macro line) (use_of (suc k) m line name) (ap (λ x. (expanded line (whole_body (use_of k m line) line) x).fault) e) h)
+    absurd (no_fault (fault UnknownMacro line) (use_of (suc k) m line name) (ap (λ x. (expanded line (whole_body (use_of k m line) line) x).fault) e) h)
 steady_suc k m line (Some body) name same e h =
     let h' : (whole_body (use_of k m line) line body).fault ≡ None = ap (λ x. (expanded line (whole_body (use_of k m line) line) x).fault) (sym e) ∙ h in
     ap (expanded line (whole_body (use_of (suc k) m line) line)) e ∙ body_steady (use_of k m line) (use_of (suc k) m line) line (length body) (all_at line body) same h' ∙ ap (expanded line (whole_body (use_of k m line) line)) (sym e)
@@ -113,15 +114,15 @@ same_name m line old name x depth least d true found same is e h blank known =
     subst P is_name (blank_above depth d m line name (omega (arith, is_depth, h)) blank)
 same_name m line old name x depth least d false found same is e h blank known = known e
 
-pub knows_noted : {S : Type 0} (m : Macros) (line : ℕ) (old new : IndexMap (List ℕ) ℕ S) (name : List ℕ) (depth : ℕ) (is_due : Bool) (r : Result (Unit {0}) PreFault) → KnowsBlanks m line old
+pub knows_noted : {S : Type 0} (m : Macros) (line : ℕ) (old new : IndexMap (List ℕ) ℕ S) (name : List ℕ) (depth : ℕ) (is_due : Bool) (r : Result (Unit {0}) StaticFault) → KnowsBlanks m line old
     → (is_due ≡ true → IsBlank (use_of depth m line name)) → Notes old new name depth is_due r → KnowsBlanks m line new
 knows_noted m line old new name depth is_due (Err f) known blank notes x least e d h = known x least (sym (notes.1 x) ∙ e) d h
 knows_noted m line old new name depth false (Ok u) known blank notes x least e d h = known x least (sym (notes x) ∙ e) d h
 knows_noted m line old new name depth true (Ok u) known blank notes x least e d h =
     same_name m line old name x depth least d (pointwise nat_eq name x) (get (pointwise nat_eq) old x) refl refl (sym (notes x) ∙ e) h (blank refl) (λ f. known x least f d h)
 
--- what was written is the answer, but for want of memory
-pub gives_noted : {S : Type 0} (old new : Text) (p : Part) (from to : IndexMap (List ℕ) ℕ S) (name : List ℕ) (depth : ℕ) (is_due : Bool) (r : Result (Unit {0}) PreFault) → Wrote old new p.rest p
+-- what was written is the answer, but for out of memory
+pub gives_noted : {S : Type 0} (old new : Text) (p : Part) (from to : IndexMap (List ℕ) ℕ S) (name : List ℕ) (depth : ℕ) (is_due : Bool) (r : Result (Unit {0}) StaticFault) → Wrote old new p.rest p
     → Notes from to name depth is_due r → Gives old new p r
 gives_noted old new p from to name depth is_due (Ok u) w n = w
 gives_noted old new p from to name depth is_due (Err f) w n = let P : Option Fault → Type 0 = λ o. EndsWith old p o in subst P (sym n.0) tt

@@ -1,12 +1,16 @@
 -- Worked examples of clean text. A line's end is 10.
 use Rattle.std.proofs.Common.{◌≡◌, ℕ, List, [], ◌∷◌, ◌++◌, refl}
-use Rattle.std.specs.Prelude.{codes, Result, Ok, Err}
+use Rattle.std.specs.Prelude.{true, codes, Result, Ok, Err}
 use Rattle.vl_pre.specs.Bytes.{Text, placed, all_at}
-use Rattle.vl_pre.specs.Pieces.{Kind, bad_directive, unbalanced, unknown_macro, macro_depth, too_long, bad_byte, open_comment, Fault}
+use Rattle.vl_tree.specs.declared.fault.FaultKind.TheVariants.{BadDirective, Unbalanced, UnknownMacro, MacroDepth, TooLong, BadByte, OpenComment}
+use Rattle.vl_tree.specs.declared.fault.FaultKind.{FaultKind}
+use Rattle.vl_pre.specs.Pieces.{Fault, fault}
 use Rattle.vl_pre.specs.CleanText.{clean_text, within, reading}
+use Rattle.vl_pre.specs.Directives.{no_macros}
+use Rattle.vl_pre.specs.Laws.Selects.{Skips, Reads, Chooses}
 
-abbrev is_at : Kind → ℕ → Result Text Fault
-is_at kind line = Err (record { kind = kind; line = line })
+abbrev is_at : FaultKind → ℕ → Result Text Fault
+is_at kind line = Err (fault kind line)
 
 -- these texts as lines, each with its LF
 abbrev lines : List (List ℕ) → List ℕ
@@ -30,7 +34,7 @@ block_comment_is_a_blank : clean_text (codes "a/* b" ++ 10 ∷ codes "é */c") �
 block_comment_is_a_blank = refl
 
 -- `/*/` doesn't close itself
-slash_does_not_close : clean_text (codes "a" ++ 10 ∷ codes "/*/ b") ≡ is_at open_comment 2
+slash_does_not_close : clean_text (codes "a" ++ 10 ∷ codes "/*/ b") ≡ is_at OpenComment 2
 slash_does_not_close = refl
 
 -- in a string no comment begins, and an escaped quote doesn't end it
@@ -46,7 +50,7 @@ escaped_hides : clean_text (codes "\\a/*`b //") ≡ Ok (all_at 1 (codes "\\a/*`b
 escaped_hides = refl
 
 -- a byte above 126 outside comments
-bad_byte_at_two : clean_text (lines (codes "a" ∷ (127 ∷ []) ∷ [])) ≡ is_at bad_byte 2
+bad_byte_at_two : clean_text (lines (codes "a" ∷ (127 ∷ []) ∷ [])) ≡ is_at BadByte 2
 bad_byte_at_two = refl
 
 -- a definition leaves its line's end, and its use gives the body
@@ -82,35 +86,35 @@ body_is_late : clean_text (lines (codes "`define B `A" ∷ codes "`define A 1" �
 body_is_late = refl
 
 -- the worked row: an undefined name
-unknown : clean_text (codes "wire `FOO;") ≡ is_at unknown_macro 1
+unknown : clean_text (codes "wire `FOO;") ≡ is_at UnknownMacro 1
 unknown = refl
 
 -- nothing is defined after `undef`
-undef_removes : clean_text (lines (codes "`define A 1" ∷ codes "`undef A" ∷ codes "`A" ∷ [])) ≡ is_at unknown_macro 3
+undef_removes : clean_text (lines (codes "`define A 1" ∷ codes "`undef A" ∷ codes "`A" ∷ [])) ≡ is_at UnknownMacro 3
 undef_removes = refl
 
 -- a macro that uses itself is the seventeenth expansion in sixteen others
-endless : clean_text (lines (codes "`define A `A" ∷ codes "`A" ∷ [])) ≡ is_at macro_depth 2
+endless : clean_text (lines (codes "`define A `A" ∷ codes "`A" ∷ [])) ≡ is_at MacroDepth 2
 endless = refl
 
 -- a directive in a body is a fault at the use
-directive_in_body : clean_text (lines (codes "`define A `undef B" ∷ codes "" ∷ codes "`A" ∷ [])) ≡ is_at bad_directive 3
+directive_in_body : clean_text (lines (codes "`define A `undef B" ∷ codes "" ∷ codes "`A" ∷ [])) ≡ is_at BadDirective 3
 directive_in_body = refl
 
--- `(` directly behind NAME; a directive's name as NAME; `include`; a backtick alone; no NAME on the line
-with_arguments : clean_text (codes "`define A(x) x") ≡ is_at bad_directive 1
+-- `(` directly after NAME; a directive's name as NAME; `include`; a backtick alone; no NAME on the line
+with_arguments : clean_text (codes "`define A(x) x") ≡ is_at BadDirective 1
 with_arguments = refl
 
-directive_as_name : clean_text (codes "`ifdef else") ≡ is_at bad_directive 1
+directive_as_name : clean_text (codes "`ifdef else") ≡ is_at BadDirective 1
 directive_as_name = refl
 
-include_is_refused : clean_text (codes "`include \"a.v\"") ≡ is_at bad_directive 1
+include_is_refused : clean_text (codes "`include \"a.v\"") ≡ is_at BadDirective 1
 include_is_refused = refl
 
-backtick_alone : clean_text (codes "a ` b") ≡ is_at bad_directive 1
+backtick_alone : clean_text (codes "a ` b") ≡ is_at BadDirective 1
 backtick_alone = refl
 
-name_on_the_next_line : clean_text (lines (codes "`ifdef" ∷ codes "A" ∷ codes "`endif" ∷ [])) ≡ is_at bad_directive 1
+name_on_the_next_line : clean_text (lines (codes "`ifdef" ∷ codes "A" ∷ codes "`endif" ∷ [])) ≡ is_at BadDirective 1
 name_on_the_next_line = refl
 
 -- nothing is defined beforehand: `else` is read, and skipped text gives nothing
@@ -134,17 +138,17 @@ skipped_text : clean_text (codes "`ifdef A `FOO é \"`endif\" /*`endif*/ \\`endi
 skipped_text = refl
 
 -- the worked row: a condition that is open at the end, at its line
-open_at_the_end : clean_text (lines (codes "`ifdef A" ∷ codes "`else" ∷ [])) ≡ is_at unbalanced 1
+open_at_the_end : clean_text (lines (codes "`ifdef A" ∷ codes "`else" ∷ [])) ≡ is_at Unbalanced 1
 open_at_the_end = refl
 
 -- the innermost first
-innermost_first : clean_text (lines (codes "`ifdef A" ∷ codes "`ifdef B" ∷ [])) ≡ is_at unbalanced 2
+innermost_first : clean_text (lines (codes "`ifdef A" ∷ codes "`ifdef B" ∷ [])) ≡ is_at Unbalanced 2
 innermost_first = refl
 
-no_condition : clean_text (codes "`endif") ≡ is_at unbalanced 1
+no_condition : clean_text (codes "`endif") ≡ is_at Unbalanced 1
 no_condition = refl
 
-else_after_else : clean_text (codes "`ifdef A `else `else `endif") ≡ is_at unbalanced 1
+else_after_else : clean_text (codes "`ifdef A `else `else `endif") ≡ is_at Unbalanced 1
 else_after_else = refl
 
 -- `timescale` is passed over with the rest of its line, and its line's end stays
@@ -152,11 +156,11 @@ passed_over : clean_text (lines (codes "`timescale 1ns/1ps // `FOO" ∷ codes "a
 passed_over = refl
 
 -- the first byte past the most is a fault at its line, before a fault that comes later
-too_long_first : within 3 (reading (codes "ab\nc`FOO")) ≡ is_at too_long 2
+too_long_first : within 3 (reading (codes "ab\nc`FOO")) ≡ is_at TooLong 2
 too_long_first = refl
 
 -- a fault that comes before that byte is the first
-fault_before_too_long : within 3 (reading (codes "ab\n`FOO")) ≡ is_at unknown_macro 2
+fault_before_too_long : within 3 (reading (codes "ab\n`FOO")) ≡ is_at UnknownMacro 2
 fault_before_too_long = refl
 
 -- the worked row: an `ifdef` of a Chisel-style design
@@ -170,7 +174,7 @@ chain = lines (codes "`define M0 1" ∷ codes "`define M1 `M0" ∷ codes "`defin
     ∷ codes "`define M7 `M6" ∷ codes "`define M8 `M7" ∷ codes "`define M9 `M8" ∷ codes "`define M10 `M9" ∷ codes "`define M11 `M10" ∷ codes "`define M12 `M11" ∷ codes "`define M13 `M12"
     ∷ codes "`define M14 `M13" ∷ codes "`define M15 `M14" ∷ codes "`define M16 `M15" ∷ [])
 
-seventeenth : clean_text (chain ++ codes "wire a = `M16;") ≡ is_at macro_depth 18
+seventeenth : clean_text (chain ++ codes "wire a = `M16;") ≡ is_at MacroDepth 18
 seventeenth = refl
 
 abbrev Accepted : Result Text Fault → Type 0
@@ -180,7 +184,7 @@ Accepted (Err f) = ⊥
 sixteenth : Accepted (clean_text (chain ++ codes "wire a = `M15;"))
 sixteenth = tt
 
--- a `//` comment ends before a backslash that continues its line, and the body goes on behind it
+-- a `//` comment ends before a backslash that continues its line, and the body goes on after it
 comment_in_continued_body : clean_text (codes "`define A a//b\\\nc\n`A") ≡ Ok (all_at 2 (10 ∷ []) ++ all_at 3 (codes "a c"))
 comment_in_continued_body = refl
 
@@ -197,12 +201,31 @@ empty_body : clean_text (codes "`define A\n[`A]") ≡ Ok (all_at 1 (10 ∷ []) +
 empty_body = refl
 
 -- a bad byte in a body and in a line that is passed over
-bad_byte_in_body : clean_text (codes "`define A é") ≡ is_at bad_byte 1
+bad_byte_in_body : clean_text (codes "`define A é") ≡ is_at BadByte 1
 bad_byte_in_body = refl
 
-bad_byte_passed : clean_text (codes "`timescale é") ≡ is_at bad_byte 1
+bad_byte_passed : clean_text (codes "`timescale é") ≡ is_at BadByte 1
 bad_byte_passed = refl
 
--- `elsif` without NAME and without condition: BadDirective stands before Unbalanced
-two_faults : clean_text (codes "`elsif") ≡ is_at bad_directive 1
-two_faults = refl
+-- an `elsif` without condition is Unbalanced, whatever stands after it: no NAME, or a comment without end
+elsif_alone : clean_text (codes "`elsif") ≡ is_at Unbalanced 1
+elsif_alone = refl
+
+elsif_before_a_comment : clean_text (codes "`elsif /* a") ≡ is_at Unbalanced 1
+elsif_before_a_comment = refl
+
+-- the same after `else`
+elsif_after_else : clean_text (lines (codes "`ifdef A" ∷ codes "`else" ∷ codes "`elsif" ∷ [])) ≡ is_at Unbalanced 3
+elsif_after_else = refl
+
+-- with a condition its NAME is looked at
+elsif_without_name : clean_text (lines (codes "`ifdef A" ∷ codes "`elsif" ∷ codes "`endif" ∷ [])) ≡ is_at BadDirective 2
+elsif_without_name = refl
+
+-- what a text with conditions selects, by its rules: nothing is defined, so `else` is read
+selects_else : Reads no_macros (placed 1 (codes "`ifdef A a`else b`endif c")) [] (all_at 1 (codes " b c")) no_macros
+selects_else =
+    Reads.a_condition true 1 (codes "A") (_, (refl, refl, refl, refl), refl)
+    (Chooses.by_else 1 1 (Skips.a_piece (λ x. refl) (Skips.a_piece (λ x. refl) Skips.at_once)) (refl, refl, refl, refl)
+    (Reads.a_piece (λ cs. refl) (Reads.a_piece (λ cs. refl) Reads.at_once)) (refl, refl, refl, refl))
+    (Reads.a_piece (λ cs. refl) (Reads.a_piece (λ cs. refl) Reads.at_once))

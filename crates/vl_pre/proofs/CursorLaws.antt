@@ -1,13 +1,13 @@
 -- One byte on in a text.
 use Rattle.std.proofs.Common.{◌≡◌, ℕ, zero, suc, ◌-◌, ◌<◌, Bool, true, false, List, [], ◌∷◌, drop, refl, ap, sym, ◌∙◌, arith}
 use Rattle.std.specs.Prelude.{Some, codes}
-use Rattle.vl_pre.specs.Bytes.{Text, Placed, line_behind, placed, all_at, bytes, begins}
-use Rattle.vl_pre.specs.Cursors.{text_from}
-use Rattle.vl_pre.specs.Pieces.{stops_line, from_stop, behind_close}
+use Rattle.vl_pre.specs.Bytes.{Text, Placed, line_after, placed, all_at, bytes, begins}
+use Rattle.vl_pre.specs.Calls.Cursors.{text_from}
+use Rattle.vl_pre.specs.Pieces.{stops_line, from_stop, after_close}
 
 bytes-placed : (line : ℕ) (bs : List ℕ) → bytes (placed line bs) ≡ bs
 bytes-placed line [] = refl
-bytes-placed line (b ∷ bs) = ap (λ x. b ∷ x) (bytes-placed (line_behind line b) bs)
+bytes-placed line (b ∷ bs) = ap (λ x. b ∷ x) (bytes-placed (line_after line b) bs)
 
 bytes-all_at : (line : ℕ) (bs : List ℕ) → bytes (all_at line bs) ≡ bs
 bytes-all_at line [] = refl
@@ -50,9 +50,9 @@ stop_none k ts us e e' = e' ∙ ap (from_stop k) (sym e)
 abbrev pub at_close : Text → Bool
 at_close ts = begins (codes "*/") (bytes ts)
 
-pub close_next : (ts us : Text) (c : Placed) → ts ≡ c ∷ us → at_close ts ≡ false → behind_close ts ≡ behind_close us
-close_next ts us c e h = let h' : at_close (c ∷ us) ≡ false = ap at_close (sym e) ∙ h in ap behind_close e ∙ rw h' refl
+pub close_next : (ts us : Text) (c : Placed) → ts ≡ c ∷ us → at_close ts ≡ false → after_close ts ≡ after_close us
+close_next ts us c e h = let h' : at_close (c ∷ us) ≡ false = ap at_close (sym e) ∙ h in ap after_close e ∙ rw h' refl
 
-pub close_here : (ts : Text) → at_close ts ≡ true → behind_close ts ≡ Some (drop 2 ts)
+pub close_here : (ts : Text) → at_close ts ≡ true → after_close ts ≡ Some (drop 2 ts)
 close_here [] h = absurd cc
 close_here (c ∷ ts) h = rw h refl

@@ -3,12 +3,13 @@ use Rattle.std.proofs.Common.{◌≡◌, ℕ, suc, ◌+◌, true, false, List, [
 use Rattle.std.specs.Prelude.{Option, Some, None, Result, Ok, Err, codes}
 use Rattle.std.specs.List.{prefix_len}
 use Rattle.std.proofs.lemmas.List.{reverse-append, reverse-reverse}
-use Rattle.vl_pre.specs.declared.fault.PreFault.{PreFault}
-use Rattle.vl_pre.specs.declared.place.Place as code
+use Rattle.vl_tree.specs.declared.fault.StaticFault.{StaticFault}
+use Rattle.vl_pre.specs.declared.context.Context as code
 use Rattle.vl_pre.specs.Bytes.{Text, bytes, begins, is_white}
-use Rattle.vl_pre.specs.Pieces.{Part, Fault, fault, bad_directive, and_then, rest_of_line}
-use Rattle.vl_pre.specs.Directives.{define, Place, After, name_of, without_blanks, trimmed, whole_by, line_of, define_by, defined, with_macros, directive_step}
-use Rattle.vl_pre.specs.Reading.{HasFault, PartHasFault, Kept, Goes}
+use Rattle.vl_tree.specs.declared.fault.FaultKind.TheVariants.{BadDirective}
+use Rattle.vl_pre.specs.Pieces.{Part, Fault, fault, and_then, rest_of_line}
+use Rattle.vl_pre.specs.Directives.{define, Context, After, name_of, without_blanks, trimmed, whole_by, line_of, define_by, defined, with_macros, directive_step}
+use Rattle.vl_pre.specs.Calls.Reading.{HasFault, PartHasFault, Kept, Goes}
 
 -- ---- white space at the end
 
@@ -25,10 +26,10 @@ no_blank_last rest front b e h =
     let here : reverse (without_blanks (b ∷ reverse front)) ≡ reverse (b ∷ reverse front) = rw h refl in
     ap (λ bs. reverse (without_blanks (reverse bs))) e ∙ ap (λ bs. reverse (without_blanks bs)) (reverse_last front b) ∙ here ∙ ap reverse (sym (reverse_last front b)) ∙ reverse-reverse (front ++ b ∷ []) ∙ sym e
 
--- ---- one reader behind another
+-- ---- one reader after another
 
-pub goes_as : (rest : Text) (place : code.Place) (q r : Result After Fault) (result : Result (Unit {0}) PreFault) → q ≡ r → Goes rest place r result → Goes rest place q result
-goes_as rest place q r result e g = let P : Result After Fault → Type 0 = λ x. Goes rest place x result in subst P (sym e) g
+pub goes_as : (rest : Text) (context : code.Context) (q r : Result After Fault) (result : Result (Unit {0}) StaticFault) → q ≡ r → Goes rest context r result → Goes rest context q result
+goes_as rest context q r result e g = let P : Result After Fault → Type 0 = λ x. Goes rest context x result in subst P (sym e) g
 
 -- ---- the rest of a line
 
@@ -41,28 +42,28 @@ line_fault p (Some f) h = ap (λ x. whole_by x p) h
 
 -- ---- definitions
 
--- behind a NAME that isn't followed by `(`
-define_line : (line : ℕ) (place : Place) (ts us : Text) (name : List ℕ) → name_of line ts ≡ Ok (name, us) → begins (codes "(") (bytes us) ≡ false
-    → directive_step define line place ts ≡ and_then (line_of true us) (λ (body : List ℕ × Text). Ok (record { place = with_macros (defined name (trimmed body.0) place.macros) place; rest = body.1 }))
-define_line line place ts us name named plain =
-    ap (λ r. and_then r (λ (n : List ℕ × Text). define_by (begins (codes "(") (bytes n.1)) line place n.0 n.1)) named ∙ ap (λ b. define_by b line place name us) plain
+-- after a NAME that isn't followed by `(`
+define_line : (line : ℕ) (context : Context) (ts us : Text) (name : List ℕ) → name_of line ts ≡ Ok (name, us) → begins (codes "(") (bytes us) ≡ false
+    → directive_step define line context ts ≡ and_then (line_of true us) (λ (body : List ℕ × Text). Ok (record { context = with_macros (defined name (trimmed body.0) context.macros) context; rest = body.1 }))
+define_line line context ts us name named plain =
+    ap (λ r. and_then r (λ (n : List ℕ × Text). define_by (begins (codes "(") (bytes n.1)) line context n.0 n.1)) named ∙ ap (λ b. define_by b line context name us) plain
 
-pub define_read : (line : ℕ) (place : Place) (ts us rest : Text) (name body : List ℕ) → name_of line ts ≡ Ok (name, us) → begins (codes "(") (bytes us) ≡ false
-    → Kept [] body rest (rest_of_line (length us) true us) → directive_step define line place ts ≡ Ok (record { place = with_macros (defined name (trimmed body) place.macros) place; rest = rest })
-define_read line place ts us rest name body named plain kept =
-    define_line line place ts us name named plain
-    ∙ ap (λ r. and_then r (λ (b : List ℕ × Text). Ok (record { place = with_macros (defined name (trimmed b.0) place.macros) place; rest = b.1 })))
+pub define_read : (line : ℕ) (context : Context) (ts us rest : Text) (name body : List ℕ) → name_of line ts ≡ Ok (name, us) → begins (codes "(") (bytes us) ≡ false
+    → Kept [] body rest (rest_of_line (length us) true us) → directive_step define line context ts ≡ Ok (record { context = with_macros (defined name (trimmed body) context.macros) context; rest = rest })
+define_read line context ts us rest name body named plain kept =
+    define_line line context ts us name named plain
+    ∙ ap (λ r. and_then r (λ (b : List ℕ × Text). Ok (record { context = with_macros (defined name (trimmed b.0) context.macros) context; rest = b.1 })))
     (line_read (rest_of_line (length us) true us) body rest kept)
 
-pub define_fault : (line : ℕ) (place : Place) (ts us : Text) (name : List ℕ) (o : Option Fault) → name_of line ts ≡ Ok (name, us) → begins (codes "(") (bytes us) ≡ false
-    → PartHasFault (rest_of_line (length us) true us) o → HasFault (directive_step define line place ts) o
-define_fault line place ts us name None named plain h = tt
-define_fault line place ts us name (Some f) named plain h =
-    define_line line place ts us name named plain
-    ∙ ap (λ r. and_then r (λ (b : List ℕ × Text). Ok (record { place = with_macros (defined name (trimmed b.0) place.macros) place; rest = b.1 })))
+pub define_fault : (line : ℕ) (context : Context) (ts us : Text) (name : List ℕ) (o : Option Fault) → name_of line ts ≡ Ok (name, us) → begins (codes "(") (bytes us) ≡ false
+    → PartHasFault (rest_of_line (length us) true us) o → HasFault (directive_step define line context ts) o
+define_fault line context ts us name None named plain h = tt
+define_fault line context ts us name (Some f) named plain h =
+    define_line line context ts us name named plain
+    ∙ ap (λ r. and_then r (λ (b : List ℕ × Text). Ok (record { context = with_macros (defined name (trimmed b.0) context.macros) context; rest = b.1 })))
     (line_fault (rest_of_line (length us) true us) (Some f) h)
 
-pub define_paren : (line : ℕ) (place : Place) (ts us : Text) (name : List ℕ) → name_of line ts ≡ Ok (name, us) → begins (codes "(") (bytes us) ≡ true
-    → directive_step define line place ts ≡ Err (fault bad_directive line)
-define_paren line place ts us name named paren =
-    ap (λ r. and_then r (λ (n : List ℕ × Text). define_by (begins (codes "(") (bytes n.1)) line place n.0 n.1)) named ∙ ap (λ b. define_by b line place name us) paren
+pub define_paren : (line : ℕ) (context : Context) (ts us : Text) (name : List ℕ) → name_of line ts ≡ Ok (name, us) → begins (codes "(") (bytes us) ≡ true
+    → directive_step define line context ts ≡ Err (fault BadDirective line)
+define_paren line context ts us name named paren =
+    ap (λ r. and_then r (λ (n : List ℕ × Text). define_by (begins (codes "(") (bytes n.1)) line context n.0 n.1)) named ∙ ap (λ b. define_by b line context name us) paren

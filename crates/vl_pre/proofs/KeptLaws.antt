@@ -1,7 +1,8 @@
 -- Bytes as they stand, one byte on.
 use Rattle.std.proofs.Common.{◌≡◌, ℕ, zero, suc, ◌-◌, ◌<◌, true, false, [], ◌∷◌, refl, ap, sym, ◌∙◌, arith}
 use Rattle.vl_pre.specs.Bytes.{Text, Placed, is_allowed}
-use Rattle.vl_pre.specs.Pieces.{Part, gives, fails, go_on, bad_byte, kept}
+use Rattle.vl_tree.specs.declared.fault.FaultKind.TheVariants.{BadByte}
+use Rattle.vl_pre.specs.Pieces.{Part, gives, fails, go_on, kept}
 
 abbrev one : Placed → Text → Part
 one c ts = gives (c ∷ []) ts
@@ -10,7 +11,7 @@ pub kept_more : (n : ℕ) (ts us : Text) (c : Placed) → 0 < n → ts ≡ c ∷
 kept_more zero ts us c some e h = absurd (omega (arith, some))
 kept_more (suc m) ts us c some e h = let k : suc m - 1 ≡ m = omega arith in ap (kept (suc m)) e ∙ rw (h, k) refl
 
-pub kept_bad : (n : ℕ) (ts us : Text) (c : Placed) → 0 < n → ts ≡ c ∷ us → is_allowed c.byte ≡ false → kept n ts ≡ fails bad_byte c.line
+pub kept_bad : (n : ℕ) (ts us : Text) (c : Placed) → 0 < n → ts ≡ c ∷ us → is_allowed c.byte ≡ false → kept n ts ≡ fails BadByte c.line
 kept_bad zero ts us c some e h = absurd (omega (arith, some))
 kept_bad (suc m) ts us c some e h = ap (kept (suc m)) e ∙ rw h refl
 

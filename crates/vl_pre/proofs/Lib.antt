@@ -1,7 +1,6 @@
 pub mod BlankLaws
 pub mod CleanLaws
 pub mod CleanTextExamples
-pub mod ConditionLaws
 pub mod CursorLaws
 pub mod DirectiveLaws
 pub mod KeptLaws
@@ -10,5 +9,7 @@ pub mod MacroLaws
 pub mod PieceLaws
 pub mod PlainLaws
 pub mod ReadingLaws
+pub mod SelectLaws
 pub mod StepLaws
+pub mod TableLaws
 pub mod WriteLaws

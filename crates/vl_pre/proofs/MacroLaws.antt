@@ -6,18 +6,19 @@ use Rattle.vl_pre.specs.declared.pieces.First.TheVariants.{LineComment, BlockCom
 use Rattle.vl_pre.specs.declared.names.Ticked as tick
 use Rattle.vl_pre.specs.declared.names.Ticked.TheVariants as v
 use Rattle.vl_pre.specs.Bytes.{Text, bytes, name_at}
-use Rattle.vl_pre.specs.Pieces.{Part, unknown_macro, macro_depth, bad_directive, gives, fails, go_on, first}
+use Rattle.vl_tree.specs.declared.fault.FaultKind.TheVariants.{UnknownMacro, MacroDepth, BadDirective}
+use Rattle.vl_pre.specs.Pieces.{Part, gives, fails, go_on, first}
 use Rattle.vl_pre.specs.Directives.{Ticked, no_name, a_directive, a_macro, Macros, ticked}
 use Rattle.vl_pre.specs.CleanText.{use_of, expanded, whole_body, body_reading, body_tick}
-use Rattle.vl_pre.specs.Views.{head_of, ticked_of}
+use Rattle.vl_pre.specs.Calls.Views.{head_of, ticked_of}
 use Rattle.vl_pre.proofs.LineLaws.{macro_tick, no_macro_tick}
-use Rattle.vl_pre.specs.Reading.{piece_at, body_piece_at, body_use_at}
+use Rattle.vl_pre.specs.Calls.Reading.{piece_at, body_piece_at, body_use_at}
 
-pub use_unknown : (depth : ℕ) (m : Macros) (line : ℕ) (name : List ℕ) → m name ≡ None → use_of depth m line name ≡ fails unknown_macro line
+pub use_unknown : (depth : ℕ) (m : Macros) (line : ℕ) (name : List ℕ) → m name ≡ None → use_of depth m line name ≡ fails UnknownMacro line
 use_unknown zero m line name e = rw e refl
 use_unknown (suc depth) m line name e = rw e refl
 
-pub use_too_deep : (depth : ℕ) (m : Macros) (line : ℕ) (name body : List ℕ) → depth ≡ 0 → m name ≡ Some body → use_of depth m line name ≡ fails macro_depth line
+pub use_too_deep : (depth : ℕ) (m : Macros) (line : ℕ) (name body : List ℕ) → depth ≡ 0 → m name ≡ Some body → use_of depth m line name ≡ fails MacroDepth line
 use_too_deep zero m line name body z e = rw e refl
 use_too_deep (suc depth) m line name body z e = absurd (omega (arith, z))
 
@@ -53,21 +54,21 @@ body_own expand line (c ∷ ts) Quote e other = let h = sym e in rw h refl
 body_own expand line (c ∷ ts) Backslash e other = let h = sym e in rw h refl
 body_own expand line (c ∷ ts) Plain e other = let h = sym e in rw h refl
 
-no_use : (expand : List ℕ → Part) (line : ℕ) (t : Ticked) (ts : Text) → (t ≡ a_macro → ⊥) → body_tick expand line t ts ≡ fails bad_directive line
+no_use : (expand : List ℕ → Part) (line : ℕ) (t : Ticked) (ts : Text) → (t ≡ a_macro → ⊥) → body_tick expand line t ts ≡ fails BadDirective line
 no_use expand line no_name ts other = refl
 no_use expand line (a_directive d) ts other = refl
 no_use expand line a_macro ts other = absurd (other refl)
 
 pub use_missing : (expand : List ℕ → Part) (line : ℕ) (ts us : Text) (name : List ℕ) (t : tick.Ticked) → us ≡ drop 1 ts → name ≡ name_at us → ticked_of t ≡ ticked name → (t ≡ v.Macro → ⊥)
-    → body_use_at expand line ts ≡ fails bad_directive line
-use_missing expand line ts us name t behind is found other =
-    let here : name ≡ name_at (drop 1 ts) = is ∙ ap name_at behind in
+    → body_use_at expand line ts ≡ fails BadDirective line
+use_missing expand line ts us name t after is found other =
+    let here : name ≡ name_at (drop 1 ts) = is ∙ ap name_at after in
     no_use expand line (ticked (name_at (drop 1 ts))) (drop 1 ts) (λ e. no_macro_tick t (ticked name) found other (ap ticked here ∙ e))
 
 pub use_found : (expand : List ℕ → Part) (line : ℕ) (ts us new : Text) (name : List ℕ) (t : tick.Ticked) → us ≡ drop 1 ts → name ≡ name_at us → ticked_of t ≡ ticked name → t ≡ v.Macro → new ≡ drop (length name) us
     → body_use_at expand line ts ≡ record (expand name) { rest = new }
-use_found expand line ts us new name t behind is tells macro left =
-    let here : name ≡ name_at (drop 1 ts) = is ∙ ap name_at behind in
+use_found expand line ts us new name t after is tells macro left =
+    let here : name ≡ name_at (drop 1 ts) = is ∙ ap name_at after in
     let found : ticked (name_at (drop 1 ts)) ≡ a_macro = ap ticked (sym here) ∙ macro_tick t (ticked name) tells macro in
     ap (λ t. body_tick expand line t (drop 1 ts)) found
-    ∙ (λ i. record (expand (sym here i)) { rest = (ap (λ n. drop (length n) (drop 1 ts)) (sym here) ∙ ap (drop (length name)) (sym behind) ∙ sym left) i })
+    ∙ (λ i. record (expand (sym here i)) { rest = (ap (λ n. drop (length n) (drop 1 ts)) (sym here) ∙ ap (drop (length name)) (sym after) ∙ sym left) i })

@@ -5,9 +5,9 @@ use Rattle.std.proofs.Math.ListN.{drop_of_length-le}
 use Rattle.std.proofs.lemmas.List.{take-append-drop, length-drop, length-map}
 use Rattle.vl_pre.specs.Bytes.{Text, Placed, at_line, bytes, begins, placed, all_at, is_allowed, most_clean}
 use Rattle.vl_pre.specs.Pieces.{a_string, escaped_name, any_other, Part, gives, before, go_on, first, as_it_stands, kept, string_length, escaped_length}
-use Rattle.vl_pre.specs.Directives.{Place}
+use Rattle.vl_pre.specs.Directives.{Context}
 use Rattle.vl_pre.specs.CleanText.{Step, step, body_piece, body_reading, whole_body, expanded, use_of, reading_from, reading, start, answer, within}
-use Rattle.vl_pre.specs.Laws.{is_plain, PlainComesThrough, UseReadsAsBody}
+use Rattle.vl_pre.specs.Laws.Plain.{is_plain, PlainComesThrough, UseReadsAsBody}
 use Rattle.vl_pre.proofs.CursorLaws.{bytes-text_from}
 use Rattle.vl_pre.proofs.ReadingLaws.{length-placed}
 
@@ -72,13 +72,13 @@ plain_first c ts false false p e f = let a = p.no_line in let b = p.no_block in 
 
 -- ---- the text
 
-abbrev keeps : ℕ → Place → Placed → Text → Step
-keeps j place c ts = record { part = kept (suc j) (c ∷ ts); place = place }
+abbrev keeps : ℕ → Context → Placed → Text → Step
+keeps j context c ts = record { part = kept (suc j) (c ∷ ts); context = context }
 
-step_by : (place : Place) (c : Placed) (ts : Text) → (first (bytes (c ∷ ts)) ≡ a_string) ⊎ ((first (bytes (c ∷ ts)) ≡ escaped_name) ⊎ (first (bytes (c ∷ ts)) ≡ any_other)) → (j : ℕ) × (step true place c ts ≡ keeps j place c ts)
-step_by place c ts (inl e) = (string_length false false (bytes ts), rw e refl)
-step_by place c ts (inr (inl e)) = (escaped_length false (bytes ts), rw e refl)
-step_by place c ts (inr (inr e)) = (0, rw e refl)
+step_by : (context : Context) (c : Placed) (ts : Text) → (first (bytes (c ∷ ts)) ≡ a_string) ⊎ ((first (bytes (c ∷ ts)) ≡ escaped_name) ⊎ (first (bytes (c ∷ ts)) ≡ any_other)) → (j : ℕ) × (step true context c ts ≡ keeps j context c ts)
+step_by context c ts (inl e) = (string_length false false (bytes ts), rw e refl)
+step_by context c ts (inr (inl e)) = (escaped_length false (bytes ts), rw e refl)
+step_by context c ts (inr (inr e)) = (0, rw e refl)
 
 piece_by : (expand : List ℕ → Part) (line : ℕ) (c : Placed) (ts : Text) → (first (bytes (c ∷ ts)) ≡ a_string) ⊎ ((first (bytes (c ∷ ts)) ≡ escaped_name) ⊎ (first (bytes (c ∷ ts)) ≡ any_other))
     → (j : ℕ) × (body_piece expand line (first (bytes (c ∷ ts))) c ts ≡ kept (suc j) (c ∷ ts))
@@ -94,7 +94,7 @@ reading_none zero = refl
 reading_none (suc n) = refl
 
 reading_next : (n : ℕ) (c : Placed) (ts : Text) → is_plain (bytes (c ∷ ts)) ≡ true → (j : ℕ) × (reading_from (suc n) start (c ∷ ts) ≡ go_on (kept (suc j) (c ∷ ts)) (reading_from n start))
-reading_next n c ts h = let s = step_by start c ts (begins_so c ts h) in (s.0, ap (λ (x : Step). go_on x.part (reading_from n x.place)) s.1)
+reading_next n c ts h = let s = step_by start c ts (begins_so c ts h) in (s.0, ap (λ (x : Step). go_on x.part (reading_from n x.context)) s.1)
 
 pub plain_comes_through : PlainComesThrough
 plain_comes_through text h room =

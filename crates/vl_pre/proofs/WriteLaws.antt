@@ -1,16 +1,17 @@
--- Writers and readers of bodies: one piece behind another.
+-- Writers and readers of bodies: one piece after another.
 use Rattle.std.proofs.Common.{◌≡◌, ◌≤◌, ℕ, List, [], ◌∷◌, ◌++◌, refl, sym, subst, ap, ◌∙◌, arith, append_assoc, append-nil, drop, length, None, Some, inl, inr}
 use Rattle.std.specs.Prelude.{Option, Err, Result}
 use Rattle.std.proofs.Math.ListN.{drop_of_length-le}
 use Rattle.std.proofs.lemmas.Bool.Decides.{leb_tells}
 use Rattle.std.proofs.lemmas.List.{drop-append-le, drop_at, map-append}
 use Rattle.vl_pre.specs.Bytes.{Placed, Text, bytes, most_clean}
-use Rattle.vl_pre.specs.Pieces.{Part, Fault, fault, too_long, gives, before, stops, go_on, go_by}
+use Rattle.vl_tree.specs.declared.fault.FaultKind.TheVariants.{TooLong}
+use Rattle.vl_pre.specs.Pieces.{Part, Fault, fault, gives, before, stops, go_on, go_by}
 use Rattle.vl_pre.specs.CleanText.{answer}
-use Rattle.vl_pre.specs.Reading.{EndsWith, Wrote, Writes, Gives, PartHasFault, Kept}
-use Rattle.vl_pre.specs.declared.fault.PreFault.{PreFault}
+use Rattle.vl_pre.specs.Calls.Reading.{EndsWith, Wrote, Writes, Gives, PartHasFault, Kept}
+use Rattle.vl_tree.specs.declared.fault.StaticFault.{StaticFault}
 
--- behind a part without fault the next is read
+-- after a part without fault the next is read
 pub goes : (p : Part) (more : Text → Part) → p.fault ≡ None → go_on p more ≡ before p.given (more p.rest)
 goes p more e = ap (λ f. go_by f p more) e
 
@@ -23,7 +24,7 @@ before_more a b p = ap (λ x. record p { given = x }) (sym (append_assoc a b p.g
 
 -- ---- the end of what is written
 
--- a fault behind bytes that are written is the fault of the whole
+-- a fault after bytes that are written is the fault of the whole
 ends_before : (old done : Text) (p : Part) (f : Fault) → EndsWith (old ++ done) p (Some f) → EndsWith old (before done p) (Some f)
 ends_before old done p f e =
     let F : Text → Result Text Fault = λ x. answer (drop most_clean x) p.fault x in
@@ -37,26 +38,26 @@ ends_at_once now p f h none e =
     (λ i. answer (beyond i) (e i) (now ++ p.given))
 
 -- one more byte where the limit is reached
-pub ends_full : (now : Text) (c : Placed) (p : Part) → length now ≡ most_clean → EndsWith now (before (c ∷ []) p) (Some (fault too_long c.line))
+pub ends_full : (now : Text) (c : Placed) (p : Part) → length now ≡ most_clean → EndsWith now (before (c ∷ []) p) (Some (fault TooLong c.line))
 ends_full now c p h =
     let e : drop most_clean (now ++ c ∷ p.given) ≡ c ∷ p.given = drop_at now (c ∷ p.given) most_clean h in
     let F : Text → Result Text Fault = λ x. answer x p.fault (now ++ c ∷ p.given) in
     ap F e
 
--- what is behind the limit stays there when more is written
-behind_limit : (xs ys : Text) (c : Placed) (cs : Text) → drop most_clean xs ≡ c ∷ cs → drop most_clean (xs ++ ys) ≡ c ∷ (cs ++ ys)
-behind_limit xs ys c cs e =
+-- what is after the limit stays there when more is written
+after_limit : (xs ys : Text) (c : Placed) (cs : Text) → drop most_clean xs ≡ c ∷ cs → drop most_clean (xs ++ ys) ≡ c ∷ (cs ++ ys)
+after_limit xs ys c cs e =
     elim (leb_tells (length xs) most_clean) [
       | inl h ↦ absurd (let f : [] ≡ c ∷ cs = sym (drop_of_length-le xs h.1) ∙ e in cc)
       | inr h ↦ drop-append-le most_clean xs ys (let i = h.1 in omega (arith, i)) ∙ ap (λ x. x ++ ys) e
     ]
 
--- a part that passes the limit passes it with more behind it
+-- a part that passes the limit passes it with more after it
 limit_first : (old : Text) (p q : Part) (f : Fault) (d : Text) → drop most_clean (old ++ p.given) ≡ d → answer d None (old ++ p.given) ≡ Err f → EndsWith old (before p.given q) (Some f)
 limit_first old p q f [] e h = absurd cc
 limit_first old p q f (c ∷ cs) e h =
     let g : drop most_clean (old ++ (p.given ++ q.given)) ≡ c ∷ (cs ++ q.given) =
-    ap (λ x. drop most_clean x) (sym (append_assoc old p.given q.given)) ∙ behind_limit (old ++ p.given) q.given c cs e in
+    ap (λ x. drop most_clean x) (sym (append_assoc old p.given q.given)) ∙ after_limit (old ++ p.given) q.given c cs e in
     let F : Text → Result Text Fault = λ x. answer x q.fault (old ++ (p.given ++ q.given)) in
     ap F g ∙ h
 
@@ -159,7 +160,7 @@ fault_first p more (Some f) h = ap (λ (x : Part). x.fault) (stays p f more h) �
 
 -- ---- the same part by another name
 
-pub writes_as : (old new rest : Text) (p q : Part) (r : Result (Unit {0}) PreFault) → p ≡ q → Writes old new rest q r → Writes old new rest p r
+pub writes_as : (old new rest : Text) (p q : Part) (r : Result (Unit {0}) StaticFault) → p ≡ q → Writes old new rest q r → Writes old new rest p r
 writes_as old new rest p q r e w = let P : Part → Type 0 = λ x. Writes old new rest x r in subst P (sym e) w
 
 -- a fault at once, or none that is named
@@ -167,10 +168,10 @@ pub ends_stop : (now : Text) (p : Part) (o : Option Fault) → length now ≤ mo
 ends_stop now p None h none e = tt
 ends_stop now p (Some f) h none e = ends_at_once now p f h none e
 
-pub gives_as : (old new : Text) (p q : Part) (r : Result (Unit {0}) PreFault) → p ≡ q → Gives old new q r → Gives old new p r
+pub gives_as : (old new : Text) (p q : Part) (r : Result (Unit {0}) StaticFault) → p ≡ q → Gives old new q r → Gives old new p r
 gives_as old new p q r e w = let P : Part → Type 0 = λ x. Gives old new x r in subst P (sym e) w
 
--- what is left behind a part doesn't matter to its end
+-- what is left after a part doesn't matter to its end
 pub ends_anywhere : (old rest : Text) (p : Part) (o : Option Fault) → EndsWith old p o → EndsWith old (record p { rest = rest }) o
 ends_anywhere old rest p None h = tt
 ends_anywhere old rest p (Some f) h = h

@@ -1,6 +1,7 @@
 -- Bytes with their lines, what ends a line, and classes of bytes (IEEE 1364-2005, 3.2 and 3.7).
-use Rattle.std.specs.Prelude.{ℕ, ◌+◌, ◌==◌, ◌≤◌, ◌≡◌, nat_le, nat_eq, Bool, ◌&&◌, ◌||◌, if◌then◌else◌, List, [], ◌∷◌, map, take, length}
+use Rattle.std.specs.Prelude.{ℕ, ◌+◌, ◌==◌, ◌≤◌, ◌≡◌, nat_le, nat_eq, Bool, true, ◌&&◌, ◌||◌, if◌then◌else◌, List, [], ◌∷◌, map, take, length}
 use Rattle.std.specs.List.{prefix_len, starts_with}
+use Rattle.dt_core.specs.declared.limits.TheConstants.{MAX_CLEAN}
 
 -- a byte and the line on which it stands, from 1
 pub record Placed : Type 0 where
@@ -15,14 +16,14 @@ Text = List Placed
 abbrev pub at_line : ℕ → ℕ → Placed
 at_line line b = record { byte = b; line = line }
 
--- the line behind a byte that stands on this line: a LF is the last byte of its line
-abbrev pub line_behind : ℕ → ℕ → ℕ
-line_behind line b = if b == 10 then line + 1 else line
+-- the line after a byte that stands on this line: a LF is the last byte of its line
+abbrev pub line_after : ℕ → ℕ → ℕ
+line_after line b = if b == 10 then line + 1 else line
 
 -- these bytes as a text that begins on this line
 abbrev pub placed : ℕ → List ℕ → Text
 placed line [] = []
-placed line (b ∷ bs) = at_line line b ∷ placed (line_behind line b) bs
+placed line (b ∷ bs) = at_line line b ∷ placed (line_after line b) bs
 
 -- these bytes, all on one line
 abbrev pub all_at : ℕ → List ℕ → Text
@@ -51,6 +52,11 @@ begins word bs = starts_with nat_eq bs word
 -- a line's end is LF, or CR and LF
 abbrev pub at_line_end : List ℕ → Bool
 at_line_end bs = begins (10 ∷ []) bs || begins (13 ∷ 10 ∷ []) bs
+
+-- no more stands on the line
+abbrev pub ends_line : List ℕ → Bool
+ends_line [] = true
+ends_line (b ∷ bs) = at_line_end (b ∷ bs)
 
 -- ---- classes of bytes
 
@@ -95,7 +101,7 @@ name_at ts = take (name_length (bytes ts)) (bytes ts)
 
 -- the most bytes of a clean text
 abbrev pub most_clean : ℕ
-most_clean = 16777216
+most_clean = MAX_CLEAN
 
 -- a line for each byte, and no more bytes than there may be
 pub record AreClean (bs ls : List ℕ) : Type 0 where

@@ -1,10 +1,12 @@
 -- Directives: definitions, conditions, and what is passed over (IEEE 1364-2005, 19).
 use Rattle.std.specs.Prelude.{ℕ, zero, suc, Bool, true, false, not, ◌&&◌, ◌||◌, if◌then◌else◌, List, [], ◌∷◌, drop, length, reverse, Option, Some, None, Result, Ok, Err, is_some, codes, bytes_eq}
 use Rattle.std.specs.List.{prefix_len}
+use Rattle.vl_pre.specs.Tables.{entry}
 use Rattle.vl_pre.specs.Bytes.{Text, bytes, begins, at_line_end, is_white, name_at}
-use Rattle.vl_pre.specs.Pieces.{bad_directive, unbalanced, Fault, fault, Part, and_then, behind_block, rest_of_line}
+use Rattle.vl_tree.specs.declared.fault.FaultKind.TheVariants.{BadDirective, Unbalanced}
+use Rattle.vl_pre.specs.Pieces.{Fault, fault, Part, and_then, after_block, rest_of_line}
 
--- ---- names behind backticks
+-- ---- names after backticks
 
 -- the directives that are known, those five that are passed over as one
 pub data Directive : Type 0 where
@@ -18,16 +20,11 @@ pub data Directive : Type 0 where
   passed_over : Directive
   include : Directive
 
--- what a backtick is by the name behind it: one without a name, a directive, or the use of a macro
+-- what a backtick is by the name after it: one without a name, a directive, or the use of a macro
 pub data Ticked : Type 0 where
   no_name : Ticked
   a_directive : Directive → Ticked
   a_macro : Ticked
-
--- what a table has under a word
-abbrev pub entry : {X : Type 0} → List (List ℕ × X) → List ℕ → Option X
-entry [] word = None
-entry (e ∷ es) word = if bytes_eq e.0 word then Some e.1 else entry es word
 
 -- the directives by their names; a name that isn't here is a macro's
 abbrev pub directives : List (List ℕ × Directive)
@@ -52,7 +49,7 @@ abbrev pub named : Option Directive → Ticked
 named None = a_macro
 named (Some d) = a_directive d
 
--- what the name behind a backtick makes it
+-- what the name after a backtick makes it
 abbrev pub ticked : List ℕ → Ticked
 ticked [] = no_name
 ticked (b ∷ bs) = named (entry directives (b ∷ bs))
@@ -84,13 +81,13 @@ pub record Condition : Type 0 where
   pub had_else : Bool
 
 -- the macros, and the open conditions from the innermost
-pub record Place : Type 0 where
+pub record Context : Type 0 where
   pub macros : Macros
   pub conditions : List Condition
 
 -- with these macros
-abbrev pub with_macros : Macros → Place → Place
-with_macros macros place = record place { macros = macros }
+abbrev pub with_macros : Macros → Context → Context
+with_macros macros context = record context { macros = macros }
 
 -- text is read, and not skipped: a condition in skipped text reads no branch, so the innermost tells
 abbrev pub is_read : List Condition → Bool
@@ -116,41 +113,41 @@ at_blank (b ∷ bs) = is_white b && not (at_line_end (b ∷ bs))
 abbrev pub at_gap : List ℕ → Bool
 at_gap bs = begins (codes "/*") bs || at_blank bs
 
--- what is behind the comment (true) or the blank at the head
-abbrev pub behind_one : Bool → Text → Result Text Fault
-behind_one true ts = behind_block ts
-behind_one false ts = Ok (drop 1 ts)
+-- what is after the comment (true) or the blank at the head
+abbrev pub after_one : Bool → Text → Result Text Fault
+after_one true ts = after_block ts
+after_one false ts = Ok (drop 1 ts)
 
 -- whether the gap goes on, where `more` reads on
 abbrev pub gap_from : Bool → Text → (Text → Result Text Fault) → Result Text Fault
-gap_from true ts more = and_then (behind_one (begins (codes "/*") (bytes ts)) ts) more
+gap_from true ts more = and_then (after_one (begins (codes "/*") (bytes ts)) ts) more
 gap_from false ts more = Ok ts
 
--- what is behind the gap at the head of a text, in at most n pieces
-abbrev pub behind_gap : ℕ → Text → Result Text Fault
-behind_gap n [] = Ok []
-behind_gap zero (c ∷ ts) = Ok (c ∷ ts)
-behind_gap (suc n) (c ∷ ts) = gap_from (at_gap (bytes (c ∷ ts))) (c ∷ ts) (behind_gap n)
+-- what is after the gap at the head of a text, in at most n pieces
+abbrev pub after_gap : ℕ → Text → Result Text Fault
+after_gap n [] = Ok []
+after_gap zero (c ∷ ts) = Ok (c ∷ ts)
+after_gap (suc n) (c ∷ ts) = gap_from (at_gap (bytes (c ∷ ts))) (c ∷ ts) (after_gap n)
 
--- a name that is a macro's, and the text behind it; any other is a fault of the directive on this line
+-- a name that is a macro's, and the text after it; any other is a fault of the directive on this line
 abbrev pub macro_name : ℕ → Ticked → Text → Result (List ℕ × Text) Fault
 macro_name line a_macro ts = Ok (name_at ts, drop (length (name_at ts)) ts)
-macro_name line _ ts = Err (fault bad_directive line)
+macro_name line _ ts = Err (fault BadDirective line)
 
--- the NAME of the directive on this line, and the text behind it
+-- the NAME of the directive on this line, and the text after it
 abbrev pub name_of : ℕ → Text → Result (List ℕ × Text) Fault
-name_of line ts = and_then (behind_gap (length ts) ts) (λ rest. macro_name line (ticked (name_at rest)) rest)
+name_of line ts = and_then (after_gap (length ts) ts) (λ rest. macro_name line (ticked (name_at rest)) rest)
 
 -- ---- what a directive does
 
 -- where the text goes on, and what is defined and open there. A directive gives no bytes
 pub record After : Type 0 where
-  pub place : Place
+  pub context : Context
   pub rest : Text
 
 -- the text goes on from this place
-abbrev pub went : Place → Text → Result After Fault
-went place rest = Ok (record { place = place; rest = rest })
+abbrev pub went : Context → Text → Result After Fault
+went context rest = Ok (record { context = context; rest = rest })
 
 -- white space at the head is no part of these bytes
 abbrev pub without_blanks : List ℕ → List ℕ
@@ -160,20 +157,20 @@ without_blanks bs = drop (prefix_len is_white bs) bs
 abbrev pub trimmed : List ℕ → List ℕ
 trimmed bs = reverse (without_blanks (reverse (without_blanks bs)))
 
--- the bytes of a part and what is left behind it, or its fault
+-- the bytes of a part and what is left after it, or its fault
 abbrev pub whole_by : Option Fault → Part → Result (List ℕ × Text) Fault
 whole_by None p = Ok (bytes p.given, p.rest)
 whole_by (Some f) p = Err f
 
--- the rest of a line and what is left behind it: the line's end
+-- the rest of a line and what is left after it: the line's end
 abbrev pub line_of : Bool → Text → Result (List ℕ × Text) Fault
 line_of continues ts = let p = rest_of_line (length ts) continues ts in whole_by p.fault p
 
--- `define` behind its NAME, and whether `(` stands there: the body is the rest of the line (19.3.1)
-abbrev pub define_by : Bool → ℕ → Place → List ℕ → Text → Result After Fault
-define_by true line place name ts = Err (fault bad_directive line)
-define_by false line place name ts =
-    and_then (line_of true ts) (λ body. went (with_macros (defined name (trimmed body.0) place.macros) place) body.1)
+-- `define` after its NAME, and whether `(` stands there: the body is the rest of the line (19.3.1)
+abbrev pub define_by : Bool → ℕ → Context → List ℕ → Text → Result After Fault
+define_by true line context name ts = Err (fault BadDirective line)
+define_by false line context name ts =
+    and_then (line_of true ts) (λ body. went (with_macros (defined name (trimmed body.0) context.macros) context) body.1)
 
 -- whether the condition of `ifdef` (true) or `ifndef` (false) holds, by whether its name is defined (19.4)
 abbrev pub holds : Bool → Bool → Bool
@@ -181,38 +178,48 @@ holds true is_there = is_there
 holds false is_there = not is_there
 
 -- with a condition that opens on this line, and holds or not
-abbrev pub opened : ℕ → Bool → Place → Place
-opened line first_holds place = record place { conditions = first_branch (is_read place.conditions) line first_holds ∷ place.conditions }
+abbrev pub opened : ℕ → Bool → Context → Context
+opened line first_holds context = record context { conditions = first_branch (is_read context.conditions) line first_holds ∷ context.conditions }
 
 -- `ifdef` (true) or `ifndef` (false) opens a condition
-abbrev pub open_step : Bool → ℕ → Place → Text → Result After Fault
-open_step wanted line place ts = and_then (name_of line ts) (λ n. went (opened line (holds wanted (is_some (place.macros n.0))) place) n.1)
+abbrev pub open_step : Bool → ℕ → Context → Text → Result After Fault
+open_step wanted line context ts = and_then (name_of line ts) (λ n. went (opened line (holds wanted (is_some (context.macros n.0))) context) n.1)
 
 -- the innermost condition goes on with its next branch, unless its `else` was read: whether that branch holds,
 -- and whether it is the one of `else`
-abbrev pub branch_by : Bool → ℕ → Place → Condition → List Condition → Bool → Bool → Text → Result After Fault
-branch_by true line place c cs holds is_else rest = Err (fault unbalanced line)
-branch_by false line place c cs holds is_else rest = went (record place { conditions = next_branch holds is_else c ∷ cs }) rest
+abbrev pub branch_by : Bool → ℕ → Context → Condition → List Condition → Bool → Bool → Text → Result After Fault
+branch_by true line context c cs holds is_else rest = Err (fault Unbalanced line)
+branch_by false line context c cs holds is_else rest = went (record context { conditions = next_branch holds is_else c ∷ cs }) rest
 
 -- the same, where a condition is open
-abbrev pub branch_step : ℕ → Place → List Condition → Bool → Bool → Text → Result After Fault
-branch_step line place [] holds is_else rest = Err (fault unbalanced line)
-branch_step line place (c ∷ cs) holds is_else rest = branch_by c.had_else line place c cs holds is_else rest
+abbrev pub branch_step : ℕ → Context → List Condition → Bool → Bool → Text → Result After Fault
+branch_step line context [] holds is_else rest = Err (fault Unbalanced line)
+branch_step line context (c ∷ cs) holds is_else rest = branch_by c.had_else line context c cs holds is_else rest
+
+-- the innermost condition may go on to a next branch: one is open, and its `else` hasn't come
+abbrev pub may_turn : List Condition → Bool
+may_turn [] = false
+may_turn (c ∷ cs) = not c.had_else
+
+-- `elsif`, by whether a condition may go on with it; only then its NAME is looked at
+abbrev pub elsif_by : Bool → ℕ → Context → Text → Result After Fault
+elsif_by false line context ts = Err (fault Unbalanced line)
+elsif_by true line context ts =
+    and_then (name_of line ts) (λ n. branch_step line context context.conditions (is_some (context.macros n.0)) false n.1)
 
 -- the innermost condition ends
-abbrev pub close_step : ℕ → Place → List Condition → Text → Result After Fault
-close_step line place [] rest = Err (fault unbalanced line)
-close_step line place (c ∷ cs) rest = went (record place { conditions = cs }) rest
+abbrev pub close_step : ℕ → Context → List Condition → Text → Result After Fault
+close_step line context [] rest = Err (fault Unbalanced line)
+close_step line context (c ∷ cs) rest = went (record context { conditions = cs }) rest
 
--- what a directive on this line does, and how the text goes on behind it
-abbrev pub directive_step : Directive → ℕ → Place → Text → Result After Fault
-directive_step define line place ts = and_then (name_of line ts) (λ n. define_by (begins (codes "(") (bytes n.1)) line place n.0 n.1)
-directive_step undef line place ts = and_then (name_of line ts) (λ n. went (with_macros (undefined n.0 place.macros) place) n.1)
-directive_step ifdef line place ts = open_step true line place ts
-directive_step ifndef line place ts = open_step false line place ts
-directive_step elsif line place ts =
-    and_then (name_of line ts) (λ n. branch_step line place place.conditions (is_some (place.macros n.0)) false n.1)
-directive_step otherwise line place ts = branch_step line place place.conditions true true ts
-directive_step endif line place ts = close_step line place place.conditions ts
-directive_step passed_over line place ts = and_then (line_of false ts) (λ passed. went place passed.1)
-directive_step include line place ts = Err (fault bad_directive line)
+-- what a directive on this line does, and how the text goes on after it
+abbrev pub directive_step : Directive → ℕ → Context → Text → Result After Fault
+directive_step define line context ts = and_then (name_of line ts) (λ n. define_by (begins (codes "(") (bytes n.1)) line context n.0 n.1)
+directive_step undef line context ts = and_then (name_of line ts) (λ n. went (with_macros (undefined n.0 context.macros) context) n.1)
+directive_step ifdef line context ts = open_step true line context ts
+directive_step ifndef line context ts = open_step false line context ts
+directive_step elsif line context ts = elsif_by (may_turn context.conditions) line context ts
+directive_step otherwise line context ts = branch_step line context context.conditions true true ts
+directive_step endif line context ts = close_step line context context.conditions ts
+directive_step passed_over line context ts = and_then (line_of false ts) (λ passed. went context passed.1)
+directive_step include line context ts = Err (fault BadDirective line)

@@ -1,9 +1,8 @@
 pub mod Bytes
-pub mod Cursors
+pub mod Tables
 pub mod Faults
 pub mod Pieces
 pub mod Directives
 pub mod CleanText
+pub mod Calls
 pub mod Laws
-pub mod Views
-pub mod Reading

@@ -1,11 +1,13 @@
 -- Pieces of text: comments, strings, escaped names and single bytes (IEEE 1364-2005, 3.3, 3.6 and 3.7.1).
 use Rattle.std.specs.Prelude.{ℕ, zero, suc, ◌==◌, Bool, true, false, not, ◌&&◌, ◌||◌, if◌then◌else◌, List, [], ◌∷◌, ◌++◌, take, drop, Option, Some, None, Result, Ok, Err, codes}
-pub use Rattle.vl_pre.specs.Faults.{Kind, bad_directive, unbalanced, unknown_macro, macro_depth, too_long, bad_byte, open_comment, Fault, fault}
+use Rattle.vl_tree.specs.declared.fault.FaultKind.TheVariants.{BadByte, OpenComment}
+use Rattle.vl_tree.specs.declared.fault.FaultKind.{FaultKind}
+pub use Rattle.vl_pre.specs.Faults.{Fault, fault}
 use Rattle.vl_pre.specs.Bytes.{Placed, Text, at_line, bytes, begins, at_line_end, is_white, is_allowed}
 
 -- ---- parts of a reading
 
--- what was read of a text: the bytes that it gives, the fault that ended it, and what is left behind it
+-- what was read of a text: the bytes that it gives, the fault that ended it, and what is left after it
 pub record Part : Type 0 where
   pub given : Text
   pub fault : Option Fault
@@ -20,14 +22,14 @@ abbrev pub stops : Fault → Part
 stops f = record { given = []; fault = Some f; rest = [] }
 
 -- a fault of this kind on this line, and nothing else
-abbrev pub fails : Kind → ℕ → Part
+abbrev pub fails : FaultKind → ℕ → Part
 fails kind line = stops (fault kind line)
 
 -- these bytes come before those
 abbrev pub before : Text → Part → Part
 before first p = record p { given = first ++ p.given }
 
--- a part with this fault or none, and what is read behind it where it has none
+-- a part with this fault or none, and what is read after it where it has none
 abbrev pub go_by : Option Fault → Part → (Text → Part) → Part
 go_by None p more = before p.given (more p.rest)
 go_by (Some f) p more = p
@@ -78,22 +80,22 @@ first bs =
     if begins (92 ∷ []) bs then escaped_name else
     if begins (96 ∷ []) bs then a_backtick else any_other
 
--- the text behind the next `*/`
-abbrev pub behind_close : Text → Option Text
-behind_close [] = None
-behind_close (c ∷ ts) = if begins (codes "*/") (bytes (c ∷ ts)) then Some (drop 1 ts) else behind_close ts
+-- the text after the next `*/`
+abbrev pub after_close : Text → Option Text
+after_close [] = None
+after_close (c ∷ ts) = if begins (codes "*/") (bytes (c ∷ ts)) then Some (drop 1 ts) else after_close ts
 
--- what is behind a comment that begins on this line, which isn't closed where nothing is
+-- what is after a comment that begins on this line, which isn't closed where nothing is
 abbrev pub closed : ℕ → Option Text → Result Text Fault
 closed line (Some rest) = Ok rest
-closed line None = Err (fault open_comment line)
+closed line None = Err (fault OpenComment line)
 
--- the text behind the comment from `/*` to `*/` at its head (3.3)
-abbrev pub behind_block : Text → Result Text Fault
-behind_block [] = Ok []
-behind_block (c ∷ ts) = closed c.line (behind_close (drop 1 ts))
+-- the text after the comment from `/*` to `*/` at its head (3.3)
+abbrev pub after_block : Text → Result Text Fault
+after_block [] = Ok []
+after_block (c ∷ ts) = closed c.line (after_close (drop 1 ts))
 
--- how many bytes a string has behind its first quote: to the next quote that no backslash escapes, that
+-- how many bytes a string has after its first quote: to the next quote that no backslash escapes, that
 -- one included, or to where a line stops (3.6)
 abbrev pub string_length : Bool → Bool → List ℕ → ℕ
 string_length continues escaped [] = 0
@@ -101,7 +103,7 @@ string_length continues escaped (b ∷ bs) =
     if stops_line continues (b ∷ bs) then 0 else
     if b == 34 && not escaped then 1 else suc (string_length continues (b == 92 && not escaped) bs)
 
--- how many bytes an escaped name has behind its backslash: it ends before white space, or where a line stops (3.7.1)
+-- how many bytes an escaped name has after its backslash: it ends before white space, or where a line stops (3.7.1)
 abbrev pub escaped_length : Bool → List ℕ → ℕ
 escaped_length continues [] = 0
 escaped_length continues (b ∷ bs) = if is_white b || stops_line continues (b ∷ bs) then 0 else suc (escaped_length continues bs)
@@ -116,7 +118,7 @@ kept_length continues _ bs = 1
 -- these bytes as they stand, up to the first that isn't allowed
 abbrev pub as_it_stands : Text → Text → Part
 as_it_stands [] rest = gives [] rest
-as_it_stands (c ∷ ts) rest = if is_allowed c.byte then before (c ∷ []) (as_it_stands ts rest) else fails bad_byte c.line
+as_it_stands (c ∷ ts) rest = if is_allowed c.byte then before (c ∷ []) (as_it_stands ts rest) else fails BadByte c.line
 
 -- the first n bytes as they stand
 abbrev pub kept : ℕ → Text → Part
@@ -134,7 +136,7 @@ blank_before line (Err f) = stops f
 -- the piece at the head of a text, by what it begins with: a comment is one blank on the line where it begins
 abbrev pub piece : Bool → Head → Placed → Text → Part
 piece continues line_comment c ts = gives (blank c.line) (from_stop continues ts)
-piece continues block_comment c ts = blank_before c.line (behind_block (c ∷ ts))
+piece continues block_comment c ts = blank_before c.line (after_block (c ∷ ts))
 piece continues f c ts = kept (kept_length continues f (bytes (c ∷ ts))) (c ∷ ts)
 
 -- ---- the rest of a line
@@ -148,22 +150,22 @@ pub data InLine : Type 0 where
 abbrev pub in_line : Bool → List ℕ → InLine
 in_line continues bs = if continues && at_continued bs then continued else inside (first bs)
 
--- the text behind the line's end at its head
-abbrev pub behind_line_end : Text → Text
-behind_line_end ts = drop (if begins (10 ∷ []) (bytes ts) then 1 else 2) ts
+-- the text after the line's end at its head
+abbrev pub after_line_end : Text → Text
+after_line_end ts = drop (if begins (10 ∷ []) (bytes ts) then 1 else 2) ts
 
 -- the piece at the head of a line: a backslash that continues it is one blank, and a `//` comment is no part of it
 abbrev pub line_piece : InLine → Bool → Placed → Text → Part
-line_piece continued continues c ts = gives (blank c.line) (behind_line_end ts)
+line_piece continued continues c ts = gives (blank c.line) (after_line_end ts)
 line_piece (inside line_comment) continues c ts = gives [] (from_stop continues ts)
 line_piece (inside f) continues c ts = piece continues f c ts
 
--- the rest of a line, whether it ends here, where `more` reads on behind the next piece
+-- the rest of a line, whether it ends here, where `more` reads on after the next piece
 abbrev pub line_from : Bool → Bool → Placed → Text → (Text → Part) → Part
 line_from true continues c ts more = gives [] (c ∷ ts)
 line_from false continues c ts more = go_on (line_piece (in_line continues (bytes (c ∷ ts))) continues c ts) more
 
--- the rest of a line, in at most n pieces; the line's end is left behind it
+-- the rest of a line, in at most n pieces; the line's end is left after it
 abbrev pub rest_of_line : ℕ → Bool → Text → Part
 rest_of_line n continues [] = gives [] []
 rest_of_line zero continues (c ∷ ts) = gives [] (c ∷ ts)

@@ -3,15 +3,17 @@
 ghost use Rattle.std.specs.Prelude.{◌≡◌, ◌<◌, ◌≤◌, ◌∷◌, [], false, length, slice_get, option_map, Some};
 ghost use Rattle.vl_pre.specs.Bytes as b;
 ghost use Rattle.vl_pre.specs.Pieces as p;
-ghost use Rattle.vl_pre.specs.Reading.{Writes, piece_at};
-ghost use Rattle.vl_pre.specs.Views.{head_of};
+ghost use Rattle.vl_pre.specs.Calls.Reading.{Writes, piece_at};
+ghost use Rattle.vl_pre.specs.Calls.Views.{head_of};
 
+use crate::bytes::is_allowed;
 use crate::cursor::{Cursor, skip_block, skip_line};
-use crate::fault::PreFault;
-use crate::pieces::{First, is_allowed, kept_length};
+use crate::fault::in_text;
+use crate::pieces::{First, kept_length};
 use dt_core::limits::MAX_CLEAN;
 use std::alloc::Global;
 use std::marker::Model;
+use vl_tree::fault::{FaultKind, StaticFault};
 
 /// Bytes without comments and directives, each with the line of the text on which it stood, from 1. A byte of a macro's body has the
 /// line of the use. A contract sees the list of these.
@@ -80,25 +82,25 @@ impl Clean {
     }
 
     /// Appends a byte of this line, unless there are as many as there may be.
-    pub(crate) fn push(&mut self, byte: u8, line: u32) -> Result<(), PreFault>
+    pub(crate) fn push(&mut self, byte: u8, line: u32) -> Result<(), StaticFault>
         ensures { (rest : b.Text) → Writes self.old self.new rest (p.gives (b.at_line line byte ∷ []) rest) result }
     {
         if self.bytes.len() >= MAX_CLEAN as usize {
-            return Err(PreFault::TooLong { line });
+            return Err(in_text(FaultKind::TooLong, line));
         }
         if self.bytes.push(byte).is_err() {
-            return Err(PreFault::Memory);
+            return Err(StaticFault::Memory);
         }
         if self.lines.push(line).is_err() {
             self.bytes.pop();
-            return Err(PreFault::Memory);
+            return Err(StaticFault::Memory);
         }
         Ok(())
     }
 }
 
 /// Appends the next `n` bytes as they stand.
-pub fn keep(out: &mut Clean, at: &mut Cursor, n: usize) -> Result<(), PreFault>
+pub fn keep(out: &mut Clean, at: &mut Cursor, n: usize) -> Result<(), StaticFault>
     requires { length out.old ≤ b.most_clean }
     ensures { Writes out.old out.new at.new (p.kept n at.old) result }
 {
@@ -108,7 +110,7 @@ pub fn keep(out: &mut Clean, at: &mut Cursor, n: usize) -> Result<(), PreFault>
             return Ok(());
         };
         if !is_allowed(byte) {
-            return Err(PreFault::BadByte { line });
+            return Err(in_text(FaultKind::BadByte, line));
         }
         out.push(byte, line)?;
         left -= 1;
@@ -124,7 +126,7 @@ fn at(bytes: &[u8], k: usize) -> Option<u8>
 }
 
 /// Appends what the piece at the head of a text gives.
-pub fn write_piece(out: &mut Clean, at: &mut Cursor, first: First) -> Result<(), PreFault>
+pub fn write_piece(out: &mut Clean, at: &mut Cursor, first: First) -> Result<(), StaticFault>
     requires some { 0 < length at.old }
     requires room { length out.old ≤ b.most_clean }
     ensures { Writes out.old out.new at.new (piece_at false (head_of first) at.old) result }

@@ -1,7 +1,7 @@
 //! Conditions: which text is read.
 
 ghost use Rattle.std.specs.Prelude.{◌≡◌, ◌&&◌, ◌||◌, not};
-ghost use Rattle.vl_pre.specs.Views as v;
+ghost use Rattle.vl_pre.specs.Calls.Views as v;
 
 /// A condition's branch: none was read yet, this one is read, or no further one is read.
 #[derive(Clone, Copy, Debug)]
@@ -45,7 +45,7 @@ pub fn first_branch(is_read: bool, holds: bool) -> Branch
     }
 }
 
-/// The branch behind this one, by whether it holds.
+/// The branch after this one, by whether it holds.
 pub fn next_branch(branch: Branch, holds: bool) -> Branch
     ensures settled { v.is_settled result ≡ (v.is_settled branch || holds) }
     ensures reading { v.is_reading result ≡ (not (v.is_settled branch) && holds) }

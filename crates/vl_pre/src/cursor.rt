@@ -3,11 +3,13 @@
 ghost use Rattle.std.specs.Prelude.{◌≡◌, ◌-◌, ◌^◌, ◌<◌, ◌≤◌, ◌∷◌, [], length, drop, codes, MatchOption};
 ghost use Rattle.vl_pre.specs.Bytes as b;
 ghost use Rattle.vl_pre.specs.Pieces as p;
-ghost use Rattle.vl_pre.specs.Reading.{Closes, Passes};
+ghost use Rattle.vl_pre.specs.Calls.Reading.{Closes, Passes};
 
-use crate::fault::PreFault;
-use crate::pieces::{name_length, next, stops_line};
+use crate::bytes::{name_length, next};
+use crate::fault::in_text;
+use crate::pieces::stops_line;
 use std::marker::Model;
+use vl_tree::fault::{FaultKind, StaticFault};
 
 /// A place in a text from which it is read on. A contract sees the text from there on, with the line of each byte.
 #[derive(Drop)]
@@ -19,7 +21,7 @@ pub struct Cursor<'a> {
 
 impl<'a> Model for Cursor<'a> {
     ghost use Rattle.vl_pre.specs.Bytes.{Text};
-    ghost use Rattle.vl_pre.specs.Cursors.{text_from, LinesFit};
+    ghost use Rattle.vl_pre.specs.Calls.Cursors.{text_from, LinesFit};
 
     ghost Value = { Text };
 
@@ -61,7 +63,8 @@ impl<'a> Cursor<'a> {
 
     /// Takes the next byte, with its line.
     pub fn next(&mut self) -> Option<(u8, u32)>
-        ensures { MatchOption result ((self.old ≡ []) × (self.new ≡ [])) (λ c. self.old ≡ b.at_line c.1 c.0 ∷ self.new) }
+        ensures { MatchOption result ((self.old ≡ []) × (self.new ≡ []))
+            (λ c. self.old ≡ b.at_line c.1 c.0 ∷ self.new) }
     {
         let line = self.line;
         let (byte, rest) = next(self.bytes)?;
@@ -104,7 +107,7 @@ fn closes(bytes: &[u8]) -> bool
     bytes.starts_with(b"*/")
 }
 
-// Goes on behind the next `*/`, and says whether there is one.
+// Goes on after the next `*/`, and says whether there is one.
 fn skip_to_close(at: &mut Cursor) -> bool
     ensures { Closes at.old at.new result }
 {
@@ -117,8 +120,8 @@ fn skip_to_close(at: &mut Cursor) -> bool
     true
 }
 
-/// Goes on behind the comment from `/*` to `*/`, and gives the line on which it begins.
-pub fn skip_block(at: &mut Cursor) -> Result<u32, PreFault>
+/// Goes on after the comment from `/*` to `*/`, and gives the line on which it begins.
+pub fn skip_block(at: &mut Cursor) -> Result<u32, StaticFault>
     ensures { Passes at.old at.new result }
 {
     let Some((_, line)) = at.next() else {
@@ -128,7 +131,7 @@ pub fn skip_block(at: &mut Cursor) -> Result<u32, PreFault>
     if skip_to_close(at) {
         Ok(line)
     } else {
-        Err(PreFault::OpenComment { line })
+        Err(in_text(FaultKind::OpenComment, line))
     }
 }
 

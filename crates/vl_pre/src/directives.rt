@@ -2,70 +2,83 @@
 
 ghost use Rattle.std.specs.Prelude.{ℕ, ◌≡◌, ◌++◌, ◌∷◌, [], reverse, MatchOption};
 ghost use Rattle.vl_pre.specs.Directives as d;
-ghost use Rattle.vl_pre.specs.Reading.{Copies, Goes};
-ghost use Rattle.vl_pre.specs.Views.{directive_of, place_of};
+ghost use Rattle.vl_pre.specs.Calls.Reading.{Copies, Goes};
+ghost use Rattle.vl_pre.specs.Calls.Views.{directive_of, context_of};
 
+use crate::bytes::is_white;
+use crate::context::Context;
 use crate::cursor::Cursor;
-use crate::fault::PreFault;
+use crate::fault::in_text;
 use crate::lines::rest_of_line;
 use crate::names::{Directive, name_of};
-use crate::pieces::{behind_blanks, is_white};
-use crate::place::Place;
+use crate::pieces::after_blanks;
 use dt_core::text::Text;
 use std::alloc::Global;
+use vl_tree::fault::{FaultKind, StaticFault};
 
-/// Does what the directive on this line does, and goes on behind it.
+/// Does what the directive on this line does, and goes on after it.
 pub fn direct(
     alloc: Global,
     directive: Directive,
     line: u32,
     at: &mut Cursor,
-    place: &mut Place,
-) -> Result<(), PreFault>
-    ensures { Goes at.new place.new (d.directive_step (directive_of directive) line (place_of place.old) at.old) result }
+    context: &mut Context,
+) -> Result<(), StaticFault>
+    ensures { Goes at.new context.new
+        (d.directive_step (directive_of directive) line (context_of context.old) at.old) result }
 {
     match directive {
-        Directive::Define => define(alloc, line, at, place),
-        Directive::Undef => undefine(alloc, line, at, place),
-        Directive::Ifdef => open(alloc, true, line, at, place),
-        Directive::Ifndef => open(alloc, false, line, at, place),
-        Directive::Elsif => turn(alloc, line, at, place),
-        Directive::Else => place.turn(line, true, true),
-        Directive::Endif => place.close(line),
+        Directive::Define => define(alloc, line, at, context),
+        Directive::Undef => undefine(alloc, line, at, context),
+        Directive::Ifdef => open(alloc, true, line, at, context),
+        Directive::Ifndef => open(alloc, false, line, at, context),
+        Directive::Elsif => turn(alloc, line, at, context),
+        Directive::Else => context.turn(line, true, true),
+        Directive::Endif => context.close(line),
         Directive::Passed => pass(alloc, at),
-        Directive::Include => Err(PreFault::BadDirective { line }),
+        Directive::Include => Err(in_text(FaultKind::BadDirective, line)),
     }
 }
 
 // A text of its own with these bytes.
-fn copied(alloc: Global, bytes: &[u8]) -> Result<Text, PreFault>
+fn copied(alloc: Global, bytes: &[u8]) -> Result<Text, StaticFault>
     ensures { Copies bytes.now result }
 {
     match Text::copied(alloc, bytes) {
         Ok(text) => Ok(text),
-        Err(_) => Err(PreFault::Memory),
+        Err(_) => Err(StaticFault::Memory),
     }
 }
 
-fn define(alloc: Global, line: u32, at: &mut Cursor, place: &mut Place) -> Result<(), PreFault>
-    ensures { Goes at.new place.new (d.directive_step d.define line (place_of place.old) at.old) result }
+fn define(
+    alloc: Global,
+    line: u32,
+    at: &mut Cursor,
+    context: &mut Context,
+) -> Result<(), StaticFault>
+    ensures { Goes at.new context.new (d.directive_step d.define line (context_of context.old) at.old) result }
 {
     let name = name_of(at, line)?;
     if at.bytes().starts_with(b"(") {
-        return Err(PreFault::BadDirective { line });
+        return Err(in_text(FaultKind::BadDirective, line));
     }
     let name = copied(alloc, name)?;
     let rest = rest_of_line(alloc, at, true)?;
     let body = copied(alloc, trimmed(rest.bytes()))?;
-    place.define(name, body)
+    context.define(name, body)
 }
 
-fn undefine(alloc: Global, line: u32, at: &mut Cursor, place: &mut Place) -> Result<(), PreFault>
-    ensures { Goes at.new place.new (d.directive_step d.undef line (place_of place.old) at.old) result }
+fn undefine(
+    alloc: Global,
+    line: u32,
+    at: &mut Cursor,
+    context: &mut Context,
+) -> Result<(), StaticFault>
+    ensures { Goes at.new context.new (d.directive_step d.undef line (context_of context.old) at.old) result }
 {
     let name = name_of(at, line)?;
     let name = copied(alloc, name)?;
-    place.undefine(&name);
+    context.undefine(&name);
     Ok(())
 }
 
@@ -75,14 +88,14 @@ fn open(
     wanted: bool,
     line: u32,
     at: &mut Cursor,
-    place: &mut Place,
-) -> Result<(), PreFault>
-    ensures { Goes at.new place.new (d.open_step wanted line (place_of place.old) at.old) result }
+    context: &mut Context,
+) -> Result<(), StaticFault>
+    ensures { Goes at.new context.new (d.open_step wanted line (context_of context.old) at.old) result }
 {
     let name = name_of(at, line)?;
     let name = copied(alloc, name)?;
-    let holds = holds(wanted, place.is_defined(&name));
-    place.open(line, holds)
+    let holds = holds(wanted, context.is_defined(&name));
+    context.open(line, holds)
 }
 
 fn holds(wanted: bool, is_there: bool) -> bool
@@ -91,19 +104,23 @@ fn holds(wanted: bool, is_there: bool) -> bool
     if wanted { is_there } else { !is_there }
 }
 
-// Goes on to the branch of an `elsif`.
-fn turn(alloc: Global, line: u32, at: &mut Cursor, place: &mut Place) -> Result<(), PreFault>
-    ensures { Goes at.new place.new (d.directive_step d.elsif line (place_of place.old) at.old) result }
+// Goes on to the branch of an `elsif`; its NAME is looked at only where it has a condition to go on with.
+fn turn(alloc: Global, line: u32, at: &mut Cursor, context: &mut Context) -> Result<(), StaticFault>
+    ensures { Goes at.new context.new (d.directive_step d.elsif line (context_of context.old) at.old) result }
 {
+    if !context.may_turn() {
+        return Err(in_text(FaultKind::Unbalanced, line));
+    }
     let name = name_of(at, line)?;
     let name = copied(alloc, name)?;
-    let holds = place.is_defined(&name);
-    place.turn(line, holds, false)
+    let holds = context.is_defined(&name);
+    context.turn(line, holds, false)
 }
 
 // Passes over the rest of the line.
-fn pass(alloc: Global, at: &mut Cursor) -> Result<(), PreFault>
-    ensures { (line : ℕ) (place : Place) → Goes at.new place (d.directive_step d.passed_over line (place_of place) at.old) result }
+fn pass(alloc: Global, at: &mut Cursor) -> Result<(), StaticFault>
+    ensures { (line : ℕ) (context : Context) → Goes at.new context
+        (d.directive_step d.passed_over line (context_of context) at.old) result }
 {
     rest_of_line(alloc, at, false)?;
     Ok(())
@@ -137,5 +154,5 @@ fn before_blanks(bytes: &[u8]) -> &[u8]
 fn trimmed(bytes: &[u8]) -> &[u8]
     ensures { result.now ≡ d.trimmed bytes.now }
 {
-    before_blanks(behind_blanks(bytes))
+    before_blanks(after_blanks(bytes))
 }

@@ -10,11 +10,14 @@
 
 ghost use Rattle.std.specs.Prelude.{◌≡◌, ◌-◌, ◌^◌, ◌<◌, length, Ok, IfOk, IfErr};
 ghost use Rattle.vl_pre.specs.CleanText.{clean_text};
-ghost use Rattle.vl_pre.specs.Laws.{PlainComesThrough, ReadInFirstToHold, UseReadsAsBody};
-ghost use Rattle.vl_pre.specs.Faults.{HasFault, told};
+ghost use Rattle.vl_pre.specs.Laws.Plain.{PlainComesThrough, UseReadsAsBody};
+ghost use Rattle.vl_pre.specs.Laws.Selects.{SelectsCleanText};
+ghost use Rattle.vl_tree.specs.Fault.{HasFault, fault_of};
 
+pub mod bytes;
 mod clean;
 mod conditions;
+mod context;
 mod cursor;
 mod directives;
 mod fault;
@@ -22,28 +25,28 @@ mod lines;
 mod macros;
 mod names;
 mod pieces;
-mod place;
 mod reading;
+pub mod tables;
 #[cfg(test)]
 mod tests;
 
 pub use clean::Clean;
+use context::Context;
 use cursor::Cursor;
-pub use fault::PreFault;
-use place::Place;
 use reading::read_all;
 use std::alloc::Global;
+use vl_tree::fault::StaticFault;
 
 /// The clean text of a text, or its first fault in order of reading.
-pub fn preprocess(alloc: Global, text: &[u8]) -> Result<Clean, PreFault>
+pub fn preprocess(alloc: Global, text: &[u8]) -> Result<Clean, StaticFault>
     requires { length text.now < 2 ^ 32 - 1 }
     ensures clean { IfOk result (λ clean. clean_text text.now ≡ Ok clean) }
-    ensures fault { IfErr result (λ e. HasFault (clean_text text.now) (told e)) }
+    ensures fault { IfErr result (λ e. HasFault (clean_text text.now) (fault_of e)) }
 {
     let mut out = Clean::new(alloc);
-    let mut place = Place::new(alloc);
+    let mut context = Context::new(alloc);
     let mut at = Cursor::over(text);
-    read_all(alloc, &mut at, &mut place, &mut out)?;
+    read_all(alloc, &mut at, &mut context, &mut out)?;
     Ok(out)
 }
 
@@ -57,7 +60,7 @@ pub fn macro_use_law()
     ensures { UseReadsAsBody }
 {}
 
-/// Text is read exactly where each open condition is in its first branch that holds.
+/// What the conditions of a text select, each the first of its branches that holds, is its clean text.
 pub fn condition_law()
-    ensures { ReadInFirstToHold }
+    ensures { SelectsCleanText }
 {}

@@ -3,15 +3,17 @@
 ghost use Rattle.std.specs.Prelude.{◌≡◌, ◌<◌, ◌∷◌, [], length, if◌then◌else◌};
 ghost use Rattle.vl_pre.specs.Bytes as b;
 ghost use Rattle.vl_pre.specs.Pieces as p;
-ghost use Rattle.vl_pre.specs.Reading as r;
-ghost use Rattle.vl_pre.specs.Reading.{Keeps, ReadsPart};
-ghost use Rattle.vl_pre.specs.Views as v;
+ghost use Rattle.vl_pre.specs.Calls.Reading as r;
+ghost use Rattle.vl_pre.specs.Calls.Reading.{Keeps, ReadsPart};
+ghost use Rattle.vl_pre.specs.Calls.Views as v;
 
+use crate::bytes::{ends_line, is_allowed};
 use crate::cursor::{Cursor, skip, skip_block, skip_line};
-use crate::fault::PreFault;
-use crate::pieces::{First, at_continued, at_line_end, first_of, is_allowed, kept_length};
+use crate::fault::in_text;
+use crate::pieces::{First, at_continued, first_of, kept_length};
 use dt_core::text::Text;
 use std::alloc::Global;
+use vl_tree::fault::{FaultKind, StaticFault};
 
 /// What stands next in a line: a backslash that continues it, or a piece.
 #[derive(Clone, Copy, Debug)]
@@ -20,23 +22,16 @@ pub enum InLine {
     Inside(First),
 }
 
-/// The rest of the line, up to its end, where comments are replaced. Where backslashes continue the line, each with the line's end behind
+/// The rest of the line, up to its end, where comments are replaced. Where backslashes continue the line, each with the line's end after
 /// it is a blank.
-pub fn rest_of_line(alloc: Global, at: &mut Cursor, continues: bool) -> Result<Text, PreFault>
+pub fn rest_of_line(alloc: Global, at: &mut Cursor, continues: bool) -> Result<Text, StaticFault>
     ensures { ReadsPart at.new (p.rest_of_line (length at.old) continues at.old) result }
 {
     let mut body = Vec::new(alloc);
-    while !ended(at.bytes()) {
+    while !ends_line(at.bytes()) {
         read_next(&mut body, at, continues)?;
     }
     Ok(Text::of_bytes(body))
-}
-
-// No more stands on the line.
-fn ended(bytes: &[u8]) -> bool
-    ensures { result ≡ r.ended bytes.now }
-{
-    bytes.is_empty() || at_line_end(bytes)
 }
 
 fn in_line(bytes: &[u8], continues: bool) -> InLine
@@ -50,7 +45,7 @@ fn in_line(bytes: &[u8], continues: bool) -> InLine
 }
 
 // Appends what the piece at the head of the line gives.
-fn read_next(body: &mut Vec<u8>, at: &mut Cursor, continues: bool) -> Result<(), PreFault>
+fn read_next(body: &mut Vec<u8>, at: &mut Cursor, continues: bool) -> Result<(), StaticFault>
     requires { 0 < length at.old }
     ensures { Keeps body.old.items body.new.items at.new (r.next_in_line continues at.old) result }
 {
@@ -61,7 +56,7 @@ fn read_next(body: &mut Vec<u8>, at: &mut Cursor, continues: bool) -> Result<(),
 }
 
 // Appends the blank of a backslash that continues the line.
-fn read_continued(body: &mut Vec<u8>, at: &mut Cursor, continues: bool) -> Result<(), PreFault>
+fn read_continued(body: &mut Vec<u8>, at: &mut Cursor, continues: bool) -> Result<(), StaticFault>
     requires { 0 < length at.old }
     ensures { Keeps body.old.items body.new.items at.new (r.piece_in_line p.continued continues at.old) result }
 {
@@ -86,9 +81,10 @@ fn read_piece(
     at: &mut Cursor,
     first: First,
     continues: bool,
-) -> Result<(), PreFault>
+) -> Result<(), StaticFault>
     requires { 0 < length at.old }
-    ensures { Keeps body.old.items body.new.items at.new (r.piece_in_line (p.inside (v.head_of first)) continues at.old) result }
+    ensures { Keeps body.old.items body.new.items at.new
+        (r.piece_in_line (p.inside (v.head_of first)) continues at.old) result }
 {
     match first {
         First::LineComment => {
@@ -108,17 +104,18 @@ fn read_piece(
 }
 
 // Appends a byte.
-fn push(body: &mut Vec<u8>, byte: u8, line: u32) -> Result<(), PreFault>
-    ensures { (rest : b.Text) → Keeps body.old.items body.new.items rest (p.gives (b.at_line line byte ∷ []) rest) result }
+fn push(body: &mut Vec<u8>, byte: u8, line: u32) -> Result<(), StaticFault>
+    ensures { (rest : b.Text) → Keeps body.old.items body.new.items rest
+        (p.gives (b.at_line line byte ∷ []) rest) result }
 {
     match body.push(byte) {
         Ok(()) => Ok(()),
-        Err(_) => Err(PreFault::Memory),
+        Err(_) => Err(StaticFault::Memory),
     }
 }
 
 // Appends the next `n` bytes as they stand.
-fn keep(body: &mut Vec<u8>, at: &mut Cursor, n: usize) -> Result<(), PreFault>
+fn keep(body: &mut Vec<u8>, at: &mut Cursor, n: usize) -> Result<(), StaticFault>
     ensures { Keeps body.old.items body.new.items at.new (p.kept n at.old) result }
 {
     let mut left = n;
@@ -127,7 +124,7 @@ fn keep(body: &mut Vec<u8>, at: &mut Cursor, n: usize) -> Result<(), PreFault>
             return Ok(());
         };
         if !is_allowed(byte) {
-            return Err(PreFault::BadByte { line });
+            return Err(in_text(FaultKind::BadByte, line));
         }
         push(body, byte, line)?;
         left -= 1;

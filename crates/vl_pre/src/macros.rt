@@ -3,17 +3,18 @@
 ghost use Rattle.std.specs.Prelude.{◌≡◌, ◌≤◌, ◌<◌, length};
 ghost use Rattle.vl_pre.specs.Bytes as b;
 ghost use Rattle.vl_pre.specs.CleanText as t;
-ghost use Rattle.vl_pre.specs.Reading.{Gives, KnowsBlanks, Notes, Writes, body_piece_at, body_use_at, is_noted};
-ghost use Rattle.vl_pre.specs.Views.{macros_of};
+ghost use Rattle.vl_pre.specs.Calls.Reading.{Gives, KnowsBlanks, Notes, Writes, body_piece_at, body_use_at, is_noted};
+ghost use Rattle.vl_pre.specs.Calls.Views.{macros_of};
 
 use crate::clean::{Clean, write_piece};
 use crate::cursor::{Cursor, name_at, skip};
-use crate::fault::PreFault;
-use crate::names::{Ticked, behind_tick};
+use crate::fault::in_text;
+use crate::names::{Ticked, after_tick};
 use crate::pieces::{First, first_of};
 use dt_core::text::Text;
 use indexmap::IndexMap;
 use std::alloc::Global;
+use vl_tree::fault::{FaultKind, StaticFault};
 
 /// The body of each name that is defined.
 pub type Macros = IndexMap<Text, Text>;
@@ -33,7 +34,7 @@ fn is_blank(blanks: &Blanks, name: &Text, depth: u32) -> bool
 }
 
 // Notes that the use of a name gives nothing from this depth on, where it does.
-fn note(blanks: &mut Blanks, name: Text, depth: u32, gives_nothing: bool) -> Result<(), PreFault>
+fn note(blanks: &mut Blanks, name: Text, depth: u32, gives_nothing: bool) -> Result<(), StaticFault>
     ensures { Notes blanks.old blanks.new name depth gives_nothing result }
 {
     if !gives_nothing {
@@ -41,7 +42,7 @@ fn note(blanks: &mut Blanks, name: Text, depth: u32, gives_nothing: bool) -> Res
     }
     match blanks.insert(name, depth) {
         Ok(_) => Ok(()),
-        Err(_) => Err(PreFault::Memory),
+        Err(_) => Err(StaticFault::Memory),
     }
 }
 
@@ -55,20 +56,20 @@ pub fn expand(
     line: u32,
     depth: u32,
     out: &mut Clean,
-) -> Result<(), PreFault>
+) -> Result<(), StaticFault>
     requires room { length out.old ≤ b.most_clean }
     requires known { KnowsBlanks (macros_of macros.now) line blanks.old }
     ensures known { KnowsBlanks (macros_of macros.now) line blanks.new }
     ensures gives { Gives out.old out.new (t.use_of depth (macros_of macros.now) line name.now) result }
 {
     let Ok(name) = Text::copied(alloc, name) else {
-        return Err(PreFault::Memory);
+        return Err(StaticFault::Memory);
     };
     let Some(body) = macros.get(&name) else {
-        return Err(PreFault::UnknownMacro { line });
+        return Err(in_text(FaultKind::UnknownMacro, line));
     };
     if depth == 0 {
-        return Err(PreFault::MacroDepth { line });
+        return Err(in_text(FaultKind::MacroDepth, line));
     }
     if is_blank(blanks, &name, depth) {
         return Ok(());
@@ -89,11 +90,12 @@ fn write_body(
     line: u32,
     depth: u32,
     out: &mut Clean,
-) -> Result<(), PreFault>
+) -> Result<(), StaticFault>
     requires room { length out.old ≤ b.most_clean }
     requires known { KnowsBlanks (macros_of macros.now) line blanks.old }
     ensures known { KnowsBlanks (macros_of macros.now) line blanks.new }
-    ensures gives { Gives out.old out.new (t.whole_body (t.use_of depth (macros_of macros.now) line) line body.now) result }
+    ensures gives { Gives out.old out.new
+        (t.whole_body (t.use_of depth (macros_of macros.now) line) line body.now) result }
 {
     let mut at = Cursor::over_body(body, line);
     while !at.bytes().is_empty() {
@@ -112,12 +114,13 @@ fn write_next(
     depth: u32,
     at: &mut Cursor,
     out: &mut Clean,
-) -> Result<(), PreFault>
+) -> Result<(), StaticFault>
     requires some { 0 < length at.old }
     requires room { length out.old ≤ b.most_clean }
     requires known { KnowsBlanks (macros_of macros.now) line blanks.old }
     ensures known { KnowsBlanks (macros_of macros.now) line blanks.new }
-    ensures writes { Writes out.old out.new at.new (body_piece_at (t.use_of depth (macros_of macros.now) line) line at.old) result }
+    ensures writes { Writes out.old out.new at.new
+        (body_piece_at (t.use_of depth (macros_of macros.now) line) line at.old) result }
 {
     let first = first_of(at.bytes());
     match first {
@@ -136,16 +139,17 @@ fn write_use(
     depth: u32,
     at: &mut Cursor,
     out: &mut Clean,
-) -> Result<(), PreFault>
+) -> Result<(), StaticFault>
     requires room { length out.old ≤ b.most_clean }
     requires known { KnowsBlanks (macros_of macros.now) line blanks.old }
     ensures known { KnowsBlanks (macros_of macros.now) line blanks.new }
-    ensures writes { Writes out.old out.new at.new (body_use_at (t.use_of depth (macros_of macros.now) line) line at.old) result }
+    ensures writes { Writes out.old out.new at.new
+        (body_use_at (t.use_of depth (macros_of macros.now) line) line at.old) result }
 {
     skip(at, 1);
     let name = name_at(at);
-    let Ticked::Macro = behind_tick(name) else {
-        return Err(PreFault::BadDirective { line });
+    let Ticked::Macro = after_tick(name) else {
+        return Err(in_text(FaultKind::BadDirective, line));
     };
     expand(alloc, macros, blanks, name, line, depth, out)?;
     skip(at, name.len());

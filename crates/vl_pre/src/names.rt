@@ -1,14 +1,17 @@
-//! Names behind backticks, and the NAME of a directive.
+//! Names after backticks, and the NAME of a directive.
 
 ghost use Rattle.std.specs.Prelude.{◌≡◌, ◌<◌, length, codes, option_map};
 ghost use Rattle.vl_pre.specs.Bytes as b;
 ghost use Rattle.vl_pre.specs.Directives as d;
-ghost use Rattle.vl_pre.specs.Reading.{Finds, Moves};
-ghost use Rattle.vl_pre.specs.Views as v;
+ghost use Rattle.vl_pre.specs.Calls.Reading.{Finds, Moves};
+ghost use Rattle.vl_pre.specs.Tables.{entry};
+ghost use Rattle.vl_pre.specs.Calls.Views as v;
 
+use crate::bytes::{at_line_end, is_white, next};
 use crate::cursor::{Cursor, name_at, skip, skip_block};
-use crate::fault::PreFault;
-use crate::pieces::{at_line_end, is_white, next};
+use crate::fault::in_text;
+use crate::tables::find;
+use vl_tree::fault::{FaultKind, StaticFault};
 
 /// A directive.
 #[derive(Clone, Copy, Debug)]
@@ -25,7 +28,7 @@ pub enum Directive {
     Include,
 }
 
-/// What stands behind a backtick.
+/// What stands after a backtick.
 #[derive(Clone, Copy, Debug)]
 pub enum Ticked {
     NoName,
@@ -33,88 +36,31 @@ pub enum Ticked {
     Macro,
 }
 
-/// A name and the directive that it is.
-#[derive(Clone, Copy)]
-pub struct Entry {
-    pub word: &'static [u8],
-    pub directive: Directive,
-}
-
-static DIRECTIVES: [Entry; 13] = [
-    Entry {
-        word: b"define",
-        directive: Directive::Define,
-    },
-    Entry {
-        word: b"undef",
-        directive: Directive::Undef,
-    },
-    Entry {
-        word: b"ifdef",
-        directive: Directive::Ifdef,
-    },
-    Entry {
-        word: b"ifndef",
-        directive: Directive::Ifndef,
-    },
-    Entry {
-        word: b"elsif",
-        directive: Directive::Elsif,
-    },
-    Entry {
-        word: b"else",
-        directive: Directive::Else,
-    },
-    Entry {
-        word: b"endif",
-        directive: Directive::Endif,
-    },
-    Entry {
-        word: b"timescale",
-        directive: Directive::Passed,
-    },
-    Entry {
-        word: b"default_nettype",
-        directive: Directive::Passed,
-    },
-    Entry {
-        word: b"resetall",
-        directive: Directive::Passed,
-    },
-    Entry {
-        word: b"celldefine",
-        directive: Directive::Passed,
-    },
-    Entry {
-        word: b"endcelldefine",
-        directive: Directive::Passed,
-    },
-    Entry {
-        word: b"include",
-        directive: Directive::Include,
-    },
+static DIRECTIVES: [(&[u8], Directive); 13] = [
+    (b"define", Directive::Define),
+    (b"undef", Directive::Undef),
+    (b"ifdef", Directive::Ifdef),
+    (b"ifndef", Directive::Ifndef),
+    (b"elsif", Directive::Elsif),
+    (b"else", Directive::Else),
+    (b"endif", Directive::Endif),
+    (b"timescale", Directive::Passed),
+    (b"default_nettype", Directive::Passed),
+    (b"resetall", Directive::Passed),
+    (b"celldefine", Directive::Passed),
+    (b"endcelldefine", Directive::Passed),
+    (b"include", Directive::Include),
 ];
-
-fn find(entries: &[Entry], name: &[u8]) -> Option<Directive>
-    ensures { option_map v.directive_of result ≡ d.entry (v.pairs entries.now) name.now }
-{
-    for entry in entries {
-        if entry.word == name {
-            return Some(entry.directive);
-        }
-    }
-    None
-}
 
 // The directive of this name.
 fn directive_of(name: &[u8]) -> Option<Directive>
-    ensures { option_map v.directive_of result ≡ d.entry d.directives name.now }
+    ensures { option_map v.directive_of result ≡ entry d.directives name.now }
 {
     find(DIRECTIVES.as_slice(), name)
 }
 
-/// What the name behind a backtick makes it.
-pub fn behind_tick(name: &[u8]) -> Ticked
+/// What the name after a backtick makes it.
+pub fn after_tick(name: &[u8]) -> Ticked
     ensures { v.ticked_of result ≡ d.ticked name.now }
 {
     match next(name) {
@@ -168,9 +114,9 @@ fn at_gap(bytes: &[u8]) -> bool
     at_comment(bytes) || at_blank(bytes)
 }
 
-// Goes on behind the comment or the blank at the head.
-fn skip_one(at: &mut Cursor) -> Result<(), PreFault>
-    ensures { Moves at.new (d.behind_one (b.begins (codes "/*") (b.bytes at.old)) at.old) result }
+// Goes on after the comment or the blank at the head.
+fn skip_one(at: &mut Cursor) -> Result<(), StaticFault>
+    ensures { Moves at.new (d.after_one (b.begins (codes "/*") (b.bytes at.old)) at.old) result }
 {
     if at_comment(at.bytes()) {
         skip_block(at)?;
@@ -180,9 +126,9 @@ fn skip_one(at: &mut Cursor) -> Result<(), PreFault>
     Ok(())
 }
 
-// Goes on behind blanks and comments on the line.
-fn skip_gap(at: &mut Cursor) -> Result<(), PreFault>
-    ensures { Moves at.new (d.behind_gap (length at.old) at.old) result }
+// Goes on after blanks and comments on the line.
+fn skip_gap(at: &mut Cursor) -> Result<(), StaticFault>
+    ensures { Moves at.new (d.after_gap (length at.old) at.old) result }
 {
     while at_gap(at.bytes()) {
         skip_one(at)?;
@@ -191,16 +137,16 @@ fn skip_gap(at: &mut Cursor) -> Result<(), PreFault>
 }
 
 /// The NAME of the directive whose backtick stands on this line.
-pub fn name_of<'a>(at: &mut Cursor<'a>, line: u32) -> Result<&'a [u8], PreFault>
+pub fn name_of<'a>(at: &mut Cursor<'a>, line: u32) -> Result<&'a [u8], StaticFault>
     ensures { Finds at.new (d.name_of line at.old) result }
 {
     skip_gap(at)?;
     let name = name_at(at);
-    match behind_tick(name) {
+    match after_tick(name) {
         Ticked::Macro => {
             skip(at, name.len());
             Ok(name)
         }
-        _ => Err(PreFault::BadDirective { line }),
+        _ => Err(in_text(FaultKind::BadDirective, line)),
     }
 }

@@ -5,7 +5,9 @@ ghost use Rattle.std.specs.List.{prefix_len};
 ghost use Rattle.vl_pre.specs.Bytes as b;
 ghost use Rattle.vl_pre.specs.Pieces as p;
 ghost use Rattle.vl_pre.specs.Directives as d;
-ghost use Rattle.vl_pre.specs.Views.{head_of};
+ghost use Rattle.vl_pre.specs.Calls.Views.{head_of};
+
+use crate::bytes::{at_line_end, is_white, next};
 
 /// What a piece begins with.
 #[derive(Clone, Copy, Debug)]
@@ -18,17 +20,7 @@ pub enum First {
     Plain,
 }
 
-/// The first byte and those behind it.
-pub fn next(bytes: &[u8]) -> Option<(u8, &[u8])>
-    ensures { MatchOption result (bytes.now ≡ []) (λ x. bytes.now ≡ x.0 ∷ x.1.now) }
-{
-    match bytes.split_first() {
-        Some((first, rest)) => Some((*first, rest)),
-        None => None,
-    }
-}
-
-// The bytes behind the first.
+// The bytes after the first.
 fn tail(bytes: &[u8]) -> &[u8]
     ensures { result.now ≡ drop 1 bytes.now }
 {
@@ -38,75 +30,12 @@ fn tail(bytes: &[u8]) -> &[u8]
     }
 }
 
-/// Space, tab, LF, FF and CR.
-pub fn is_white(byte: u8) -> bool
-    ensures { result ≡ b.is_white byte }
-{
-    byte == 32 || byte == 9 || byte == 10 || byte == 12 || byte == 13
-}
-
-/// Tab, LF, FF, CR and 32 to 126.
-pub fn is_allowed(byte: u8) -> bool
-    ensures { result ≡ b.is_allowed byte }
-{
-    is_white(byte) || byte >= 32 && byte <= 126
-}
-
-fn begins_name(byte: u8) -> bool
-    ensures { result ≡ b.begins_name byte }
-{
-    byte >= b'A' && byte <= b'Z' || byte >= b'a' && byte <= b'z' || byte == b'_'
-}
-
-fn is_in_name(byte: u8) -> bool
-    ensures { result ≡ b.is_in_name byte }
-{
-    begins_name(byte) || byte >= b'0' && byte <= b'9' || byte == b'$'
-}
-
-fn count_in_name(bytes: &[u8]) -> usize
-    ensures count { result ≡ prefix_len b.is_in_name bytes.now }
-    ensures within { result ≤ length bytes.now }
-{
-    bytes.iter().take_while(|byte| is_in_name(**byte)).count()
-}
-
-/// How many bytes the name at the head has; 0 where none begins there.
-pub fn name_length(bytes: &[u8]) -> usize
-    ensures count { result ≡ b.name_length bytes.now }
-    ensures within { result ≤ length bytes.now }
-{
-    match next(bytes) {
-        Some((first, behind)) => name_length_by(first, behind),
-        None => 0,
-    }
-}
-
-// The same, by the first byte and those behind it.
-fn name_length_by(first: u8, behind: &[u8]) -> usize
-    ensures count { result ≡ b.name_length (first ∷ behind.now) }
-    ensures within { result ≤ length behind.now + 1 }
-{
-    if begins_name(first) {
-        count_in_name(behind) + 1
-    } else {
-        0
-    }
-}
-
-/// A line's end comes: LF, or CR and LF.
-pub fn at_line_end(bytes: &[u8]) -> bool
-    ensures { result ≡ b.at_line_end bytes.now }
-{
-    bytes.starts_with(b"\n") || bytes.starts_with(b"\r\n")
-}
-
 /// A backslash directly before a line's end comes.
 pub fn at_continued(bytes: &[u8]) -> bool
     ensures { result ≡ p.at_continued bytes.now }
 {
     match next(bytes) {
-        Some((first, behind)) => first == b'\\' && at_line_end(behind),
+        Some((first, after)) => first == b'\\' && at_line_end(after),
         None => false,
     }
 }
@@ -151,7 +80,7 @@ fn escapes(byte: u8, escaped: bool) -> bool
     byte == b'\\' && !escaped
 }
 
-// How many bytes a string has behind its first quote.
+// How many bytes a string has after its first quote.
 fn string_length(bytes: &[u8], continues: bool) -> usize
     ensures count { result ≡ p.string_length continues false bytes.now }
     ensures within { result ≤ length bytes.now }
@@ -159,7 +88,7 @@ fn string_length(bytes: &[u8], continues: bool) -> usize
     let mut rest = bytes;
     let mut escaped = false;
     let mut count: usize = 0;
-    while let Some((byte, behind)) = next(rest) {
+    while let Some((byte, after)) = next(rest) {
         if stops_line(rest, continues) {
             return count;
         }
@@ -168,7 +97,7 @@ fn string_length(bytes: &[u8], continues: bool) -> usize
             return count;
         }
         escaped = escapes(byte, escaped);
-        rest = behind;
+        rest = after;
     }
     count
 }
@@ -180,19 +109,19 @@ fn ends_escaped(byte: u8, bytes: &[u8], continues: bool) -> bool
     is_white(byte) || stops_line(bytes, continues)
 }
 
-// How many bytes an escaped name has behind its backslash.
+// How many bytes an escaped name has after its backslash.
 fn escaped_length(bytes: &[u8], continues: bool) -> usize
     ensures count { result ≡ p.escaped_length continues bytes.now }
     ensures within { result ≤ length bytes.now }
 {
     let mut rest = bytes;
     let mut count: usize = 0;
-    while let Some((byte, behind)) = next(rest) {
+    while let Some((byte, after)) = next(rest) {
         if ends_escaped(byte, rest, continues) {
             return count;
         }
         count += 1;
-        rest = behind;
+        rest = after;
     }
     count
 }
@@ -216,7 +145,7 @@ fn count_white(bytes: &[u8]) -> usize
 }
 
 /// The bytes without the white space at their head.
-pub fn behind_blanks(bytes: &[u8]) -> &[u8]
+pub fn after_blanks(bytes: &[u8]) -> &[u8]
     ensures { result.now ≡ d.without_blanks bytes.now }
 {
     bytes.split_at(count_white(bytes)).1

@@ -4,55 +4,56 @@ ghost use Rattle.std.specs.Prelude.{◌≤◌, ◌<◌, true, length};
 ghost use Rattle.vl_pre.specs.Bytes as b;
 ghost use Rattle.vl_pre.specs.CleanText as t;
 ghost use Rattle.vl_pre.specs.Directives as d;
-ghost use Rattle.vl_pre.specs.Reading.{Gives, Goes, Steps, skipped_at, skipped_tick_at, step_at, tick_at};
-ghost use Rattle.vl_pre.specs.Views.{place_of};
+ghost use Rattle.vl_pre.specs.Calls.Reading.{Gives, Goes, Steps, skipped_at, skipped_tick_at, step_at, tick_at};
+ghost use Rattle.vl_pre.specs.Calls.Views.{context_of};
 
 use crate::clean::{Clean, write_piece};
+use crate::context::Context;
 use crate::cursor::{Cursor, name_at, skip, skip_block, skip_line};
 use crate::directives::direct;
-use crate::fault::PreFault;
+use crate::fault::in_text;
 use crate::macros::expand;
-use crate::names::{Ticked, behind_tick, is_conditional};
+use crate::names::{Ticked, after_tick, is_conditional};
 use crate::pieces::{First, first_of, kept_length};
-use crate::place::Place;
 use indexmap::IndexMap;
 use std::alloc::Global;
+use vl_tree::fault::{FaultKind, StaticFault};
 
 /// An expansion inside this many others is a fault.
-const MAX_DEPTH: u32 = 16;
+const MAX_EXPANSIONS: u32 = 16;
 
 /// Appends what a text gives from here on.
 pub fn read_all(
     alloc: Global,
     at: &mut Cursor,
-    place: &mut Place,
+    context: &mut Context,
     out: &mut Clean,
-) -> Result<(), PreFault>
+) -> Result<(), StaticFault>
     requires { length out.old ≤ b.most_clean }
-    ensures { Gives out.old out.new (t.reading_from (length at.old) (place_of place.old) at.old) result }
+    ensures { Gives out.old out.new (t.reading_from (length at.old) (context_of context.old) at.old) result }
 {
     while !at.bytes().is_empty() {
-        take_step(alloc, at, place, out)?;
+        take_step(alloc, at, context, out)?;
     }
-    place.finish()
+    context.finish()
 }
 
 // Takes the step at the head of a text.
 fn take_step(
     alloc: Global,
     at: &mut Cursor,
-    place: &mut Place,
+    context: &mut Context,
     out: &mut Clean,
-) -> Result<(), PreFault>
+) -> Result<(), StaticFault>
     requires some { 0 < length at.old }
     requires room { length out.old ≤ b.most_clean }
-    ensures { Steps out.old out.new at.new place.new
-        (step_at (d.is_read (place_of place.old).conditions) (place_of place.old) at.old) result }
+    ensures { Steps out.old out.new at.new context.new
+        (step_at (d.is_read (context_of context.old).conditions) (context_of context.old) at.old) result }
 {
-    if place.is_read() {
-        read_step(alloc, at, place, out)
+    if context.is_read() {
+        read_step(alloc, at, context, out)
     } else {
-        skip_step(alloc, at, place)
+        skip_step(alloc, at, context)
     }
 }
 
@@ -60,16 +61,16 @@ fn take_step(
 fn read_step(
     alloc: Global,
     at: &mut Cursor,
-    place: &mut Place,
+    context: &mut Context,
     out: &mut Clean,
-) -> Result<(), PreFault>
+) -> Result<(), StaticFault>
     requires some { 0 < length at.old }
     requires room { length out.old ≤ b.most_clean }
-    ensures { Steps out.old out.new at.new place.new (step_at true (place_of place.old) at.old) result }
+    ensures { Steps out.old out.new at.new context.new (step_at true (context_of context.old) at.old) result }
 {
     let first = first_of(at.bytes());
     match first {
-        First::Tick => read_tick(alloc, at, place, out),
+        First::Tick => read_tick(alloc, at, context, out),
         _ => write_piece(out, at, first),
     }
 }
@@ -78,32 +79,32 @@ fn read_step(
 fn read_tick(
     alloc: Global,
     at: &mut Cursor,
-    place: &mut Place,
+    context: &mut Context,
     out: &mut Clean,
-) -> Result<(), PreFault>
+) -> Result<(), StaticFault>
     requires room { length out.old ≤ b.most_clean }
-    ensures { Steps out.old out.new at.new place.new (tick_at (place_of place.old) at.old) result }
+    ensures { Steps out.old out.new at.new context.new (tick_at (context_of context.old) at.old) result }
 {
     let Some((_, line)) = at.next() else {
         return Ok(());
     };
     let name = name_at(at);
-    match behind_tick(name) {
-        Ticked::NoName => Err(PreFault::BadDirective { line }),
+    match after_tick(name) {
+        Ticked::NoName => Err(in_text(FaultKind::BadDirective, line)),
         Ticked::Named(directive) => {
             skip(at, name.len());
-            direct(alloc, directive, line, at, place)
+            direct(alloc, directive, line, at, context)
         }
         Ticked::Macro => {
             skip(at, name.len());
             let mut blanks = IndexMap::new(alloc);
             expand(
                 alloc,
-                &place.macros,
+                &context.macros,
                 &mut blanks,
                 name,
                 line,
-                MAX_DEPTH,
+                MAX_EXPANSIONS,
                 out,
             )
         }
@@ -111,9 +112,9 @@ fn read_tick(
 }
 
 // Passes over the piece at the head of a text that is skipped.
-fn skip_step(alloc: Global, at: &mut Cursor, place: &mut Place) -> Result<(), PreFault>
+fn skip_step(alloc: Global, at: &mut Cursor, context: &mut Context) -> Result<(), StaticFault>
     requires { 0 < length at.old }
-    ensures { Goes at.new place.new (skipped_at (place_of place.old) at.old) result }
+    ensures { Goes at.new context.new (skipped_at (context_of context.old) at.old) result }
 {
     let first = first_of(at.bytes());
     match first {
@@ -131,7 +132,7 @@ fn skip_step(alloc: Global, at: &mut Cursor, place: &mut Place) -> Result<(), Pr
             skip(at, length);
             Ok(())
         }
-        First::Tick => skip_tick(alloc, at, place),
+        First::Tick => skip_tick(alloc, at, context),
         _ => {
             skip(at, 1);
             Ok(())
@@ -140,19 +141,19 @@ fn skip_step(alloc: Global, at: &mut Cursor, place: &mut Place) -> Result<(), Pr
 }
 
 // Does what the backtick at the head of a text that is skipped begins.
-fn skip_tick(alloc: Global, at: &mut Cursor, place: &mut Place) -> Result<(), PreFault>
-    ensures { Goes at.new place.new (skipped_tick_at (place_of place.old) at.old) result }
+fn skip_tick(alloc: Global, at: &mut Cursor, context: &mut Context) -> Result<(), StaticFault>
+    ensures { Goes at.new context.new (skipped_tick_at (context_of context.old) at.old) result }
 {
     let Some((_, line)) = at.next() else {
         return Ok(());
     };
     let name = name_at(at);
-    let Ticked::Named(directive) = behind_tick(name) else {
+    let Ticked::Named(directive) = after_tick(name) else {
         return Ok(());
     };
     if !is_conditional(directive) {
         return Ok(());
     }
     skip(at, name.len());
-    direct(alloc, directive, line, at, place)
+    direct(alloc, directive, line, at, context)
 }

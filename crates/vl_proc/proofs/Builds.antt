@@ -23,7 +23,7 @@ use Rattle.vl_proc.proofs.Values.{values_length, values_grow, old_value, grown_n
 
 -- ---- actions at more values
 
--- a node's value where more values stand behind
+-- a node's value where more values stand after
 value_kept : (v w : List ℕ) (k : ℕ) → k < length v → slice_index (v ++ w) k ≡ slice_index v k
 value_kept v w k h = get_or_append_left v w 0 k h
 

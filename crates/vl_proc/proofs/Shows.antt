@@ -30,7 +30,7 @@ found_named clock i r (p ∷ ps) x s h = elim (cases_Bool (bytes_eq (port_name p
   | inr e ↦ rw e (found_named clock (i + length (data_input clock p)) (r + length (register p)) ps x s (rw e at h))
 ]
 
--- a port in front whose name is no later port's doesn't change what is found behind it
+-- a port in front whose name is no later port's doesn't change what is found after it
 found_behind : (clock : Text) (i r : ℕ) (p : Port) (ps : List Port) (x : Text) (s : Signal) → is_some (port_named ps (port_name p)) ≡ false
     → found clock (i + length (data_input clock p)) (r + length (register p)) ps x ≡ Some s → found clock i r (p ∷ ps) x ≡ Some s
 found_behind clock i r p ps x s n h = elim (cases_Bool (bytes_eq (port_name p) x)) [

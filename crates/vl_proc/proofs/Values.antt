@@ -37,7 +37,7 @@ values_more row state done (x ∷ xs) =
     let w = values_more row state (done ++ v ∷ []) xs in
     (v ∷ w.0, w.1 ∙ append_assoc done (v ∷ []) w.0)
 
--- a list of nodes and a longer one: the values of the longer stand behind those of the first
+-- a list of nodes and a longer one: the values of the longer stand after those of the first
 pub values_grow : (m : Module) (old new : List Node) → Grown m old new → (row state : List ℕ) → (more : List ℕ) × (values_from row state [] new ≡ values_from row state [] old ++ more)
 values_grow m old new g row state =
     let w = values_more row state (values_from row state [] old) g.more in
@@ -92,7 +92,7 @@ added m old mid new x k v g e w f h = record {
       ∙ get_or_at vs (value row state vs x) [] 0 k n ∙ h row state a b;
 }
 
--- nodes were added behind
+-- nodes were added after
 pub made_before : (m : Module) (old mid new : List Node) (k : ℕ) (v : List ℕ → List ℕ → ℕ) → Makes m old mid k v → Grown m mid new → Makes m old new k v
 made_before m old mid new k v a g = record {
   grown = grown_then m old mid new a.grown g;

@@ -33,7 +33,7 @@ impl Nodes {
         }
     }
 
-    /// Adds a node, and gives its number. More nodes than can be numbered are want of memory.
+    /// Adds a node, and gives its number. More nodes than can be numbered count as out of memory.
     pub fn add(&mut self, node: Node) -> Result<u32, NoMemory>
         ensures number { IfOk result (λ k. k ≡ length self.old) }
         ensures added { OnOk result (self.new ≡ self.old ++ node ∷ []) }

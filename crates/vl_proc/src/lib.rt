@@ -4,7 +4,7 @@
 //! (numbers at a context's width).
 //! Above: `vl_front`, which reads the tree. Promise: the design of a sound module stands for the module.
 //! `specs/Ports` says what ports become, `specs/Lowers` what a piece of lowering adds.
-//! Not said: that memory is enough; more nodes than 2^32 are want of memory.
+//! Not said: that memory is enough; more nodes than 2^32 count as out of memory.
 #![tactic(auto)]
 
 mod builder;

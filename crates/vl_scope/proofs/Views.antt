@@ -61,7 +61,7 @@ stmt-display f n = search (rules, the_lemmas)
 pub stmt-stop : (line : ℕ) → stmt (s.Stop line) ≡ tree.stop line
 stmt-stop line = search (rules, the_lemmas)
 
--- the statements from a place on: the one there, and those behind it
+-- the statements from a place on: the one there, and those after it
 pub stmts-drop : (all : List Stmt) (i : ℕ) (x : Stmt) → i < length all → x ≡ get_or all i x → stmts (drop i all) ≡ tree.more_stmt (stmt x) (stmts (drop (i + 1) all))
 stmts-drop all i x below is = ap stmts (drop_more all i x below) ∙ ap (λ y. tree.more_stmt (stmt y) (stmts (drop (i + 1) all))) (sym is)
 

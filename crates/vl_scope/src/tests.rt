@@ -36,7 +36,7 @@ struct Case {
     format: &'static [u8],
     argument: Option<&'static [u8]>,
     stops: u32,
-    /// The target behind `else`.
+    /// The target after `else`.
     target: &'static [u8],
 }
 

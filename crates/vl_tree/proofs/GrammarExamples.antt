@@ -47,8 +47,8 @@ outer_is_refused (m1, (_, (_, e1)), (m2, (m3, (_, (_, e2)), (m4, (_, (_, e3)), (
     (subst NoElse s n) refl
 
 -- an `else` whose statement is an `if` is one branch more, and no last `else`
-if_behind_else_is_refused : (ts rest : Tokens) → stmt_at 2 (conditional (more_branch (primary (name (codes "a"))) (write 1) no_branch) (else_stmt inner_else)) ts rest → ⊥
-if_behind_else_is_refused ts rest (_, _, (_, _, (_, _, (_, _, (_, _, (is_no_if, _)))))) = absurd cc
+if_after_else_is_refused : (ts rest : Tokens) → stmt_at 2 (conditional (more_branch (primary (name (codes "a"))) (write 1) no_branch) (else_stmt inner_else)) ts rest → ⊥
+if_after_else_is_refused ts rest (_, _, (_, _, (_, _, (_, _, (_, _, (is_no_if, _)))))) = absurd cc
 
 -- ---- operators before their operands
 

@@ -1,18 +1,47 @@
--- The names of the kinds of static faults that the text of a design and its tokens can have, as a report has them. This project's own.
-use Rattle.std.specs.Prelude.{ℕ, List, codes}
+-- Static faults: the name of each kind, as a report has it, and a fault with its phase, place and kind. This project's own.
+use Rattle.std.specs.Prelude.{ℕ, ◌≡◌, List, Option, Some, None, Result, Err, codes}
 use Rattle.vl_tree.specs.declared.fault.FaultKind.{FaultKind}
-use Rattle.vl_tree.specs.declared.fault.FaultKind.TheVariants as f
+use Rattle.vl_tree.specs.declared.fault.FaultKind.TheVariants as k
+use Rattle.vl_tree.specs.declared.fault.StaticFault.{StaticFault}
+use Rattle.vl_tree.specs.declared.fault.StaticFault.TheVariants as f
 
 abbrev pub name_of : FaultKind → List ℕ
-name_of f.BadDirective = codes "BadDirective"
-name_of f.Unbalanced = codes "Unbalanced"
-name_of f.UnknownMacro = codes "UnknownMacro"
-name_of f.MacroDepth = codes "MacroDepth"
-name_of f.TooLong = codes "TooLong"
-name_of f.BadByte = codes "BadByte"
-name_of f.OpenComment = codes "OpenComment"
-name_of f.BadToken = codes "BadToken"
-name_of f.BadNumber = codes "BadNumber"
-name_of f.TooWide = codes "TooWide"
-name_of f.OpenString = codes "OpenString"
-name_of f.TooManyTokens = codes "TooManyTokens"
+name_of k.BadDirective = codes "BadDirective"
+name_of k.Unbalanced = codes "Unbalanced"
+name_of k.UnknownMacro = codes "UnknownMacro"
+name_of k.MacroDepth = codes "MacroDepth"
+name_of k.TooLong = codes "TooLong"
+name_of k.BadByte = codes "BadByte"
+name_of k.OpenComment = codes "OpenComment"
+name_of k.BadToken = codes "BadToken"
+name_of k.BadNumber = codes "BadNumber"
+name_of k.TooWide = codes "TooWide"
+name_of k.OpenString = codes "OpenString"
+name_of k.TooManyTokens = codes "TooManyTokens"
+
+-- a static fault: the phase that has it, its line, from 1, the number of its token where there are tokens, and its kind
+pub record Fault : Type 0 where
+  pub phase : ℕ
+  pub line : ℕ
+  pub token : Option ℕ
+  pub kind : FaultKind
+
+-- a fault of a phase that reads no tokens
+abbrev pub fault : ℕ → ℕ → FaultKind → Fault
+fault phase line kind = record { phase = phase; line = line; token = None; kind = kind }
+
+-- ---- what the code answers
+
+-- a fault of the code, of a phase that reads no tokens
+abbrev pub on_line : ℕ → ℕ → FaultKind → StaticFault
+on_line phase line kind = f.At phase (record { line = line; token = None }) kind
+
+-- the fault that an answer names; out of memory is none
+abbrev pub fault_of : StaticFault → Option Fault
+fault_of (f.At phase place kind) = Some (record { phase = phase; line = place.line; token = place.token; kind = kind })
+fault_of f.Memory = None
+
+-- the definition has this fault; where none is named, nothing is said
+abbrev pub HasFault : {X : Type 0} → Result X Fault → Option Fault → Type 0
+HasFault r None = Unit {0}
+HasFault r (Some f) = r ≡ Err f

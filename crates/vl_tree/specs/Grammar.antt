@@ -1,5 +1,5 @@
 -- The grammar of a module with one clocked block (IEEE 1364-2005, annex A, cut down): which tokens stand for a tree, from where they
--- begin to what is left behind them. Each token stands at a depth, the number of constructs that enclose it, of 200 at most: this
+-- begin to what is left after them. Each token stands at a depth, the number of constructs that enclose it, of 200 at most: this
 -- project's own. The nearest `if` is 9.4.
 use Rattle.std.specs.Prelude.{ℕ, ◌+◌, ◌≡◌, ◌≤◌, Bool, true, false, List, [], ◌∷◌, Option, Some, None}
 use Rattle.vl_tree.specs.declared.token.Key.{Key}
@@ -121,7 +121,7 @@ abbrev mutual
   stmts_at d no_stmt = nothing
   stmts_at d (more_stmt b bs) = stmt_at d b then stmts_at d bs
 
-  -- the branches behind the first
+  -- the branches after the first
   pub branches_at : ℕ → Branches → Piece
   branches_at d no_branch = nothing
   branches_at d (more_branch c b bs) = word d w.Else then word d w.If then condition_at d c then stmt_at (d + 1) b then branches_at d bs

@@ -1,5 +1,5 @@
--- Tokens as plain data (IEEE 1364-2005, 3.1). Keywords, marks and system names are those of the program; that a literal tells the
--- bits that it leaves open is this project's own.
+-- Tokens as plain data (IEEE 1364-2005, 3.1). Keywords, marks and system names are those of the program; that a literal says which bits
+-- it leaves open is this project's own.
 use Rattle.std.specs.Prelude.{ℕ, Bool, List, map}
 use Rattle.vl_tree.specs.declared.token.Key.{Key}
 use Rattle.vl_tree.specs.declared.token.Mark.{Mark}

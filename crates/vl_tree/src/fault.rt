@@ -1,9 +1,10 @@
-//! Kinds of static faults: why the text of a design is refused.
+//! Static faults: why the text of a design is refused, and where.
 
 ghost use Rattle.std.specs.Prelude.{◌≡◌};
-ghost use Rattle.vl_tree.specs.Fault.{name_of};
+ghost use Rattle.vl_tree.specs.Fault.{name_of, on_line};
 
-/// What is wrong with the text of a design, in the two phases that read it: its clean text, and its tokens.
+/// What is wrong with the text of a design, in the order in which a report prefers one kind to another at one place. A kind says what
+/// is wrong; `specs/Fault` has its name, and the definition of its phase says exactly where it stands.
 #[derive(Clone, Copy, Debug, PartialEq, Eq)]
 pub enum FaultKind {
     /// Phase 1: a directive that isn't one, or not in its form.
@@ -50,6 +51,39 @@ impl FaultKind {
             FaultKind::TooWide => "TooWide",
             FaultKind::OpenString => "OpenString",
             FaultKind::TooManyTokens => "TooManyTokens",
+        }
+    }
+}
+
+/// Where a fault stands: its line, from 1, and the number of its token, from 0, in the phases that read tokens.
+#[derive(Clone, Copy, Debug, PartialEq, Eq)]
+pub struct Place {
+    pub line: u32,
+    pub token: Option<u32>,
+}
+
+/// Why a phase refuses a text.
+#[derive(Clone, Copy, Debug, PartialEq, Eq)]
+pub enum StaticFault {
+    /// Its first fault: the phase that finds it, where it stands, and its kind.
+    At {
+        phase: u8,
+        place: Place,
+        kind: FaultKind,
+    },
+    /// Out of memory.
+    Memory,
+}
+
+impl StaticFault {
+    /// A fault of a phase that reads no tokens.
+    pub fn on_line(phase: u8, line: u32, kind: FaultKind) -> StaticFault
+        ensures { result ≡ on_line phase line kind }
+    {
+        StaticFault::At {
+            phase,
+            place: Place { line, token: None },
+            kind,
         }
     }
 }

@@ -1,6 +1,7 @@
 //! Tokens: what the text of a design is spelled of.
 
 ghost use Rattle.std.specs.Prelude.{◌≤◌, ◌<◌, ◌^◌};
+ghost use Rattle.dt_core.specs.declared.limits.TheConstants.{MAX_WIDTH};
 
 use dt_core::text::Text;
 
@@ -13,7 +14,7 @@ pub struct Literal {
     pub signed: bool,
     pub value: u128,
     pub wild: u128,
-    ghost wide: { (1 ≤ width) × (width ≤ 128) },
+    ghost wide: { (1 ≤ width) × (width ≤ MAX_WIDTH) },
     ghost fits: { (value < 2 ^ width) × (wild < 2 ^ width) },
 }
 

@@ -3,7 +3,7 @@ use Rattle.std.specs.Prelude.{Ok, IfOk, IfErr}
 use Rattle.vl_tree.specs.Token.{all_coded}
 use Rattle.vl_pre.specs.Bytes.{Text}
 use Rattle.vl_lex.specs.Tokens.{tokens_of}
-use Rattle.vl_lex.specs.Reading.{IsFirst}
+use Rattle.vl_tree.specs.Fault.{HasFault, fault_of}
 use Rattle.vl_lex.proofs.LoopLaws.{paired, same_text}
 use Rattle.vl_lex.proofs.lex.Goals as goal
 
@@ -17,5 +17,5 @@ returns-clause-tokens c =
 
 pub returns-clause-fault : goal.returns-clause-fault
 returns-clause-fault c =
-    let e = same_text c.args.clean.now _ _ c.bytes.ensures c.lines.ensures in
-    subst (λ (x : Text). IfErr c.lex_lines.result (λ v. IsFirst (tokens_of x) v)) e c.lex_lines.ensures.fault
+    let same = same_text c.args.clean.now _ _ c.bytes.ensures c.lines.ensures in
+    subst (λ (x : Text). IfErr c.lex_lines.result (λ e. HasFault (tokens_of x) (fault_of e))) same c.lex_lines.ensures.fault

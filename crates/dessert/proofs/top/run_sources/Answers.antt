@@ -1,7 +1,6 @@
 use Rattle.std.proofs.Common.{◌≡◌, List, ℕ, length, refl, sym, ap, subst, ◌∙◌}
 use Rattle.std.specs.Prelude.{IfOk}
 use Rattle.std.proofs.KnownBytes.{Keeps-refl}
-use Rattle.vl_front.specs.Spelled.{fault}
 use Rattle.vl_front.specs.OneModule.{IsDesign}
 use Rattle.dessert.specs.Outside.{streams_at}
 use Rattle.dessert.specs.Calls.Ended.{status_of}
@@ -31,7 +30,8 @@ returns-in-Err-At-clause-answers g c = λ words files led.
     let h = rw c.in-Err-At.field-0-is at c.in-Err-At.ensures in
     faulty words (streams_at g.S.Source g.V.Sink g.T.Sink files c.args.stimulus.now c.args.out.now c.args.report.now c.args.steps.now)
     (streams_at g.S.Source g.V.Sink g.T.Sink files c.args.stimulus.now c.args.out.now c.finish_text.new.report c.args.steps.now) c.args.lag c.args.sources.origins
-    c.args.sources.text.items (fault c.in-Err-At.field-0-0 c.in-Err-At.line c.in-Err-At.kind) (status_of c.finish_text.result) led h (refl, refl, refl) (Keeps-refl _) (Keeps-refl _)
+    c.args.sources.text.items (record { phase = c.in-Err-At.field-0-0; line = c.in-Err-At.line; token = h.0; kind = c.in-Err-At.kind })
+    (status_of c.finish_text.result) led h.1 (refl, refl, refl) (Keeps-refl _) (Keeps-refl _)
     (λ contents counts. c.finish_text.ensures _ (subst (λ (x : List ℕ). IfOk c.design_fault.result (λ t. t.items ≡ x))
     (fault_at c.args.sources.origins contents c.in-Err-At.line _ _ c.in-Err-At.kind counts c.spot.ensures.file c.spot.ensures.line)
     c.design_fault.ensures))

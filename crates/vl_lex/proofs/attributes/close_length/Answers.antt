@@ -1,5 +1,5 @@
 use Rattle.std.proofs.Common.{arith, sym, ◌∙◌, ◌≡◌, false, ap, length}
-use Rattle.vl_lex.specs.Reading.{ends_attribute}
+use Rattle.vl_lex.specs.Calls.Reading.{ends_attribute}
 use Rattle.vl_lex.proofs.AttributeLaws.{close_start, close_next}
 use Rattle.vl_lex.proofs.attributes.close_length.Goals as goal
 

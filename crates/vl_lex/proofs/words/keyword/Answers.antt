@@ -1,8 +1,7 @@
 use Rattle.std.proofs.Common.{◌≡◌, List, ℕ, subst}
 use Rattle.std.specs.Borrow.{Bor}
+use Rattle.vl_pre.specs.Tables.{entry, pairs}
 use Rattle.vl_tree.specs.declared.token.Key.{Key}
-use Rattle.vl_lex.specs.Words.{entry}
-use Rattle.vl_lex.specs.Reading.{pairs}
 use Rattle.vl_lex.proofs.words.keyword.Goals as goal
 
 pub returns : goal.returns

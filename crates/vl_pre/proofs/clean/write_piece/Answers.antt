@@ -2,14 +2,14 @@ use Rattle.std.proofs.Common.{rules, ◌≡◌, ◌<◌, ◌≤◌, ◌∷◌, f
 use Rattle.std.specs.Prelude.{Option, Some, None}
 use Rattle.std.proofs.lemmas.Result.{err_from_is_err_and}
 use Rattle.vl_pre.specs.Bytes.{Text, at_line, most_clean}
-use Rattle.vl_pre.specs.Pieces.{block_comment, Part, Fault, gives, stops, blank, behind_block}
-use Rattle.vl_pre.specs.Views.{head_of}
-use Rattle.vl_pre.specs.Reading.{HasFault, EndsWith, piece_at, told}
+use Rattle.vl_pre.specs.Pieces.{block_comment, Part, Fault, gives, stops, blank, after_block}
+use Rattle.vl_pre.specs.Calls.Views.{head_of}
+use Rattle.vl_pre.specs.Calls.Reading.{HasFault, EndsWith, piece_at, fault_of}
 use Rattle.vl_pre.proofs.LineLaws.{line_comment_blank, block_blank, block_open}
 use Rattle.vl_pre.proofs.WriteLaws.{writes_as, ends_at_once}
 use Rattle.vl_pre.proofs.clean.write_piece.Goals as goal
 
-block_ends : (o : Option Fault) (old ts : Text) → 0 < length ts → length old ≤ most_clean → HasFault (behind_block ts) o → EndsWith old (piece_at false block_comment ts) o
+block_ends : (o : Option Fault) (old ts : Text) → 0 < length ts → length old ≤ most_clean → HasFault (after_block ts) o → EndsWith old (piece_at false block_comment ts) o
 block_ends None old ts some room h = tt
 block_ends (Some f) old ts some room h =
     let stopped : piece_at false block_comment ts ≡ stops f = block_open false ts f some h in
@@ -18,7 +18,7 @@ block_ends (Some f) old ts some room h =
 pub returns-in_err-line-in-BlockComment : goal.returns-in_err-line-in-BlockComment
 returns-in_err-line-in-BlockComment c =
     let p = err_from_is_err_and c.from_residual.result c.from_residual.ensures.1 in
-    rw (p.1, p.2) (rw c.in-BlockComment.is (block_ends (told c.in_err-line-in-BlockComment.field-0.0) c.args.out.now c.args.at.now c.requires.some c.requires.room c.in_err-line-in-BlockComment.ensures))
+    rw (p.1, p.2) (rw c.in-BlockComment.is (block_ends (fault_of c.in_err-line-in-BlockComment.field-0.0) c.args.out.now c.args.at.now c.requires.some c.requires.room c.in_err-line-in-BlockComment.ensures))
 
 pub returns-in-Some : goal.returns-in-Some
 returns-in-Some c =

@@ -2,8 +2,9 @@ use Rattle.std.proofs.Common.{rules, ◌≡◌, ◌-◌, ◌∷◌, [], true, fa
 use Rattle.std.specs.Prelude.{Some}
 use Rattle.std.proofs.lemmas.Result.{err_from_is_err_and}
 use Rattle.vl_pre.specs.Bytes.{at_line, is_allowed}
-use Rattle.vl_pre.specs.Pieces.{Part, fault, bad_byte, gives, kept}
-use Rattle.vl_pre.specs.Reading.{told}
+use Rattle.vl_tree.specs.declared.fault.FaultKind.TheVariants.{BadByte}
+use Rattle.vl_pre.specs.Pieces.{Part, fault, gives, kept}
+use Rattle.vl_pre.specs.Calls.Reading.{fault_of}
 use Rattle.vl_pre.proofs.KeptLaws.{kept_more, kept_bad}
 use Rattle.vl_pre.proofs.WriteLaws.{collects_more, collects_stop, collects_as, fault_first}
 use Rattle.vl_pre.proofs.lines.keep.Goals as goal
@@ -12,8 +13,8 @@ pub returns-then-not-is_allowed : goal.returns-then-not-is_allowed
 returns-then-not-is_allowed c =
     let next : c.loop-left.at ≡ at_line c.in-Some.line c.in-Some.byte ∷ c.next.new.self = search rules in
     let bad : is_allowed c.in-Some.byte ≡ false = search rules in
-    collects_stop (Some (fault bad_byte c.in-Some.line)) c.loop-left.invariant
-    (ap (λ (x : Part). x.fault) (kept_bad c.loop-left.left c.loop-left.at c.next.new.self (at_line c.in-Some.line c.in-Some.byte) (search rules) next bad))
+    rw c.in_text.ensures (collects_stop (Some (fault BadByte c.in-Some.line)) c.loop-left.invariant
+    (ap (λ (x : Part). x.fault) (kept_bad c.loop-left.left c.loop-left.at c.next.new.self (at_line c.in-Some.line c.in-Some.byte) (search rules) next bad)))
 
 pub returns-in_err-push : goal.returns-in_err-push
 returns-in_err-push c =
@@ -22,8 +23,8 @@ returns-in_err-push c =
     let p = err_from_is_err_and c.from_residual.result c.from_residual.ensures.1 in
     let part = gives (at_line c.in-Some.line c.in-Some.byte ∷ []) c.next.new.self in
     let more = kept_more c.loop-left.left c.loop-left.at c.next.new.self (at_line c.in-Some.line c.in-Some.byte) (search rules) next good in
-    rw (p.1, p.2) (collects_stop (told c.in_err-push.field-0.0) (collects_as c.loop-left.invariant more)
-    (fault_first part (kept (c.loop-left.left - 1)) (told c.in_err-push.field-0.0) (c.in_err-push.ensures c.next.new.self)))
+    rw (p.1, p.2) (collects_stop (fault_of c.in_err-push.field-0.0) (collects_as c.loop-left.invariant more)
+    (fault_first part (kept (c.loop-left.left - 1)) (fault_of c.in_err-push.field-0.0) (c.in_err-push.ensures c.next.new.self)))
 
 pub loop-left-preserved : goal.loop-left-preserved
 loop-left-preserved c =

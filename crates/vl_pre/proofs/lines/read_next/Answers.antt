@@ -1,8 +1,8 @@
 use Rattle.std.proofs.Common.{◌≡◌, ap, ◌∙◌}
 use Rattle.vl_pre.specs.Bytes.{bytes}
 use Rattle.vl_pre.specs.Pieces.{in_line}
-use Rattle.vl_pre.specs.Reading.{piece_in_line}
-use Rattle.vl_pre.specs.Views.{in_line_of}
+use Rattle.vl_pre.specs.Calls.Reading.{piece_in_line}
+use Rattle.vl_pre.specs.Calls.Views.{in_line_of}
 use Rattle.vl_pre.proofs.LineLaws.{keeps_as, next_piece}
 use Rattle.vl_pre.proofs.lines.read_next.Goals as goal
 

@@ -1,8 +1,8 @@
 use Rattle.std.proofs.Common.{◌≡◌, ap, ◌∙◌}
 use Rattle.vl_pre.specs.declared.pieces.First.TheVariants.{LineComment, BlockComment}
 use Rattle.vl_pre.specs.Pieces.{inside, gives, blank}
-use Rattle.vl_pre.specs.Views.{head_of}
-use Rattle.vl_pre.specs.Reading.{piece_in_line}
+use Rattle.vl_pre.specs.Calls.Views.{head_of}
+use Rattle.vl_pre.specs.Calls.Reading.{piece_in_line}
 use Rattle.vl_pre.proofs.LineLaws.{keeps_as, same_piece, block_blank}
 use Rattle.vl_pre.proofs.lines.read_piece.Goals as goal
 

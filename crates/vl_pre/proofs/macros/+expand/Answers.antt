@@ -6,9 +6,10 @@ use Rattle.indexmap.specs.IndexMap.{get}
 use Rattle.vl_pre.specs.Bytes.{at_line}
 use Rattle.std.proofs.lemmas.Bool.{eqb-true}
 use Rattle.vl_pre.proofs.BlankLaws.{noted_from, blank_wrote, wrote_blank, knows_noted, gives_noted}
-use Rattle.vl_pre.specs.Pieces.{Part, fault, unknown_macro, macro_depth, bad_directive}
+use Rattle.vl_tree.specs.declared.fault.FaultKind.TheVariants.{UnknownMacro, MacroDepth, BadDirective}
+use Rattle.vl_pre.specs.Pieces.{Part, fault}
 use Rattle.vl_pre.specs.CleanText.{use_of, whole_body, body_reading}
-use Rattle.vl_pre.specs.Reading.{told, macros_of, IsBlank, Wrote, body_piece_at}
+use Rattle.vl_pre.specs.Calls.Reading.{fault_of, macros_of, IsBlank, Wrote, body_piece_at}
 use Rattle.std.proofs.lemmas.List.{length-map}
 use Rattle.vl_pre.proofs.ReadingLaws.{empty_text}
 use Rattle.vl_pre.proofs.StepLaws.{body_at_length, body_reads_more}
@@ -20,13 +21,14 @@ pub expand-returns-in_default-get-clause-gives : goal.expand-returns-in_default-
 expand-returns-in_default-get-clause-gives t c =
     let m = macros_of c.args.macros.now in
     let none : m c.args.name.now ≡ None = ap m (sym c.in-Ok.ensures) ∙ sym c.in_default-get.ensures.value in
-    ends_fails c.args.out.now _ (fault unknown_macro c.args.line) c.requires.room (use_unknown c.args.depth m c.args.line c.args.name.now none)
+    rw c.in_text.ensures (ends_fails c.args.out.now _ (fault UnknownMacro c.args.line) c.requires.room (use_unknown c.args.depth m c.args.line c.args.name.now none))
 
 pub expand-returns-then-depth-eq0-clause-gives : goal.expand-returns-then-depth-eq0-clause-gives
 expand-returns-then-depth-eq0-clause-gives t c =
     let m = macros_of c.args.macros.now in
     let some : m c.args.name.now ≡ Some c.in-Some.body.now = ap m (sym c.in-Ok.ensures) ∙ sym c.in-Some.ensures.value in
-    ends_fails c.args.out.now _ (fault macro_depth c.args.line) c.requires.room (use_too_deep c.args.depth m c.args.line c.args.name.now c.in-Some.body.now c.if-depth-eq0.true some)
+    rw c.in_text-then-depth-eq0.ensures (ends_fails c.args.out.now _ (fault MacroDepth c.args.line) c.requires.room
+    (use_too_deep c.args.depth m c.args.line c.args.name.now c.in-Some.body.now c.if-depth-eq0.true some))
 
 -- what the use gives is what its body gives
 pub expand-returns-in_err-write_body-clause-gives : goal.expand-returns-in_err-write_body-clause-gives
@@ -36,7 +38,7 @@ expand-returns-in_err-write_body-clause-gives t c =
     let some : m c.args.name.now ≡ Some c.in-Some.body.now = ap m (sym c.in-Ok.ensures) ∙ sym c.in-Some.ensures.value in
     let reading = whole_body (use_of (c.args.depth - 1) m line) line in
     let p = err_from_is_err_and c.from_residual.result c.from_residual.ensures.1 in
-    rw (p.1, p.2) (ends_as c.args.out.now _ (reading c.bytes.result.now) (told c.in_err-write_body.field-0.0)
+    rw (p.1, p.2) (ends_as c.args.out.now _ (reading c.bytes.result.now) (fault_of c.in_err-write_body.field-0.0)
     (use_body c.args.depth m line c.args.name.now c.in-Some.body.now (omega arith) some ∙ ap reading (sym c.bytes.ensures)) c.in_err-write_body.ensures.gives)
 
 pub expand-returns-then-is_blank-clause-gives : goal.expand-returns-then-is_blank-clause-gives
@@ -88,7 +90,7 @@ write_body-returns-in_err-write_next-clause-gives t c =
     let left : 0 < length c.loop-at.at = search rules in
     let reads = c.loop-at.invariant.reads in
     let p = err_from_is_err_and c.from_residual.result c.from_residual.ensures.1 in
-    rw (p.1, p.2) (leads_stop (body_piece_at expand c.args.line c.loop-at.at) (body_reading expand c.args.line (reads.0 - 1)) (told c.in_err-write_next.field-0.0) reads.2
+    rw (p.1, p.2) (leads_stop (body_piece_at expand c.args.line c.loop-at.at) (body_reading expand c.args.line (reads.0 - 1)) (fault_of c.in_err-write_next.field-0.0) reads.2
     (body_more expand c.args.line reads.0 c.loop-at.at (let k = reads.1 in omega (arith, k, left)) left) c.in_err-write_next.ensures.writes)
 
 pub write_body-loop-at-preserved : goal.write_body-loop-at-preserved
@@ -121,8 +123,8 @@ write_body-returns-clause-gives t c =
 pub write_use-returns-in_default-clause-writes : goal.write_use-returns-in_default-clause-writes
 write_use-returns-in_default-clause-writes t c =
     let expand = use_of c.args.depth (macros_of c.args.macros.now) c.args.line in
-    ends_fails c.args.out.now _ (fault bad_directive c.args.line) c.requires.room
-    (use_missing expand c.args.line c.args.at.now c.skip.new.at c.name_at-name.result.now c.behind_tick.result c.skip.ensures c.name_at-name.ensures c.behind_tick.ensures c.in_default.not-Macro)
+    rw c.in_text.ensures (ends_fails c.args.out.now _ (fault BadDirective c.args.line) c.requires.room
+    (use_missing expand c.args.line c.args.at.now c.skip.new.at c.name_at-name.result.now c.after_tick.result c.skip.ensures c.name_at-name.ensures c.after_tick.ensures c.in_default.not-Macro))
 
 pub write_use-returns-in_err-expand-clause-writes : goal.write_use-returns-in_err-expand-clause-writes
 write_use-returns-in_err-expand-clause-writes t c =
@@ -130,6 +132,6 @@ write_use-returns-in_err-expand-clause-writes t c =
     let name = c.name_at-name.result.now in
     let new = drop (length name) c.skip.new.at in
     let p = err_from_is_err_and c.from_residual.result c.from_residual.ensures.1 in
-    rw (p.1, p.2) (ends_as c.args.out.now _ (record (expand name) { rest = new }) (told c.in_err-expand.field-0.0)
-    (use_found expand c.args.line c.args.at.now c.skip.new.at new name c.behind_tick.result c.skip.ensures c.name_at-name.ensures c.behind_tick.ensures c.in-Macro.is refl)
-    (ends_anywhere c.args.out.now new (expand name) (told c.in_err-expand.field-0.0) c.in_err-expand.ensures.gives))
+    rw (p.1, p.2) (ends_as c.args.out.now _ (record (expand name) { rest = new }) (fault_of c.in_err-expand.field-0.0)
+    (use_found expand c.args.line c.args.at.now c.skip.new.at new name c.after_tick.result c.skip.ensures c.name_at-name.ensures c.after_tick.ensures c.in-Macro.is refl)
+    (ends_anywhere c.args.out.now new (expand name) (fault_of c.in_err-expand.field-0.0) c.in_err-expand.ensures.gives))

@@ -1,7 +1,7 @@
 use Rattle.std.proofs.Common.{◌≤◌, ◌+◌, ◌*◌, length}
 use Rattle.vl_pre.specs.Bytes.{most_clean}
 use Rattle.vl_pre.specs.CleanText.{use_of, whole_body}
-use Rattle.vl_pre.specs.Reading.{macros_of, KnowsBlanks}
+use Rattle.vl_pre.specs.Calls.Reading.{macros_of, KnowsBlanks}
 use Rattle.vl_pre.proofs.StepLaws.{ReadsBody}
 use Rattle.vl_pre.proofs.macros.+expand.Given as goal
 

@@ -2,7 +2,7 @@ use Rattle.std.proofs.Common.{rules, ◌≡◌, ◌≤◌, true, false, length, 
 use Rattle.std.proofs.lemmas.Result.{err_from_is_err_and}
 use Rattle.vl_pre.specs.Bytes.{bytes}
 use Rattle.vl_pre.specs.Directives.{at_gap}
-use Rattle.vl_pre.specs.Reading.{told}
+use Rattle.vl_pre.specs.Calls.Reading.{fault_of}
 use Rattle.vl_pre.proofs.LineLaws.{gap_ended}
 use Rattle.vl_pre.proofs.StepLaws.{one_shorter, gap_skips_more, gap_skips_fault}
 use Rattle.vl_pre.proofs.names.skip_gap.Goals as goal
@@ -15,7 +15,7 @@ returns-in_err-skip_one c =
     let found : c.at_gap.result ≡ true = search rules in
     let gap : at_gap (bytes c.loop-at.at) ≡ true = ap at_gap (sym c.bytes.ensures) ∙ sym c.at_gap.ensures ∙ found in
     let p = err_from_is_err_and c.from_residual.result c.from_residual.ensures.1 in
-    rw (p.1, p.2) (gap_skips_fault _ c.loop-at.at (told c.in_err-skip_one.field-0.0) c.loop-at.invariant gap c.in_err-skip_one.ensures)
+    rw (p.1, p.2) (gap_skips_fault _ c.loop-at.at (fault_of c.in_err-skip_one.field-0.0) c.loop-at.invariant gap c.in_err-skip_one.ensures)
 
 pub loop-at-preserved : goal.loop-at-preserved
 loop-at-preserved c =

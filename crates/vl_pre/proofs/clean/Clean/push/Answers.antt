@@ -9,7 +9,7 @@ pub returns-then-len : goal.returns-then-len
 returns-then-len c rest =
     let n = length-joined c.self.inside.bytes.items c.self.inside.lines.items c.self.invariant.paired in
     let view = ap length c.self.view_is in
-    ends_full c.args.self.now (at_line c.args.line c.args.byte) (gives [] rest) (omega (arith, n, view))
+    rw c.in_text.ensures (ends_full c.args.self.now (at_line c.args.line c.args.byte) (gives [] rest) (omega (arith, n, view)))
 
 pub returns : goal.returns
 returns c rest =

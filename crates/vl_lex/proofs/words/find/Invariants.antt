@@ -1,7 +1,0 @@
-use Rattle.std.proofs.Common.{◌≡◌, drop}
-use Rattle.vl_lex.specs.Words.{entry}
-use Rattle.vl_lex.specs.Reading.{pairs}
-use Rattle.vl_lex.proofs.words.find.Given as goal
-
-abbrev pub invariant-loop-entry : goal.invariant-loop-entry
-invariant-loop-entry g l = entry (pairs (drop l.entry-index l.entries)) l.word ≡ entry (pairs l.entries) l.word

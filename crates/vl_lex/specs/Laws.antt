@@ -1,0 +1,2 @@
+-- Laws of the definitions, in a reader's words.
+pub mod Spelled
