@@ -20,8 +20,6 @@ pub mod operator;
 mod places;
 mod reduce;
 mod shifts;
-#[cfg(test)]
-mod tests;
 
 use arithmetic::{difference, negated, product, quotient, remainder, sum};
 use compare::{is_at_most, is_less};

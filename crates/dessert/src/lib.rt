@@ -16,8 +16,6 @@ mod replay;
 mod rows;
 mod run;
 mod sources;
-#[cfg(test)]
-mod tests;
 mod texts;
 mod top;
 mod window;

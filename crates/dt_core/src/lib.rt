@@ -17,6 +17,4 @@ pub mod limits;
 mod packing;
 pub mod place;
 pub mod row;
-#[cfg(test)]
-mod tests;
 pub mod text;

@@ -16,5 +16,3 @@ mod calls;
 pub mod memory;
 pub mod outside;
 pub mod real;
-#[cfg(test)]
-mod tests;

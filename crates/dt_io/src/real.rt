@@ -172,8 +172,9 @@ fn append_file<R: Host>(rt: &R, name: &str, into: &mut Vec<u8>, most: u64) -> Re
     }
 }
 
-// Appends all that a source has left, or a part of it.
-pub(crate) fn append_all<S: Source>(
+/// Appends all that a source has left to `into`, `most` bytes at the most. `Failed`: a read failed; `TooLong`: more bytes
+/// are left; `Memory`: out of memory. After a refusal `into` holds a part of them.
+pub fn append_all<S: Source>(
     source: &mut S,
     into: &mut Vec<u8>,
     most: u64,

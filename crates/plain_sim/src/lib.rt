@@ -6,8 +6,6 @@
 //! What is called once a cycle takes no memory. Not said: how long a cycle takes.
 #![tactic(auto)]
 
-#[cfg(test)]
-mod counter;
 mod deeds;
 pub mod fired;
 pub mod sim;

@@ -16,5 +16,3 @@ mod header;
 mod place;
 pub mod reader;
 mod scan;
-#[cfg(test)]
-mod tests;

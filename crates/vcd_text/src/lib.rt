@@ -14,8 +14,6 @@ pub mod fault;
 mod header;
 mod lines;
 pub mod progress;
-#[cfg(test)]
-mod tests;
 pub mod writer;
 
 /// A reader of the lines who keeps the last value of each code knows what each variable shows in each cycle of the window; codes

@@ -14,8 +14,6 @@ ghost use Rattle.vl_front.specs.Spelled.{spelled};
 ghost use Rattle.vl_front.specs.Reads.{IsFirst, Reads};
 
 mod fault;
-#[cfg(test)]
-mod tests;
 
 pub use fault::DesignFault;
 use flat_ir::flat::Flat;

@@ -106,5 +106,3 @@ pub fn token_laws()
     ensures longest { TakesLongest }
 {}
 
-#[cfg(test)]
-mod tests;

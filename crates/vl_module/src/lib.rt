@@ -68,5 +68,3 @@ pub fn parse_module(alloc: Global, tokens: &[Token]) -> Result<Module, SynFault>
     }
 }
 
-#[cfg(test)]
-mod tests;

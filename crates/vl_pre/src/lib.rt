@@ -27,8 +27,6 @@ mod names;
 mod pieces;
 mod reading;
 pub mod tables;
-#[cfg(test)]
-mod tests;
 
 pub use clean::Clean;
 use context::Context;

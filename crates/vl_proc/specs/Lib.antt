@@ -1,4 +1,3 @@
 pub mod Ports
 pub mod Scopes
 pub mod Lowers
-pub mod Counter

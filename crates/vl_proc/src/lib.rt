@@ -13,8 +13,6 @@ mod lists;
 mod names;
 mod statement;
 mod table;
-#[cfg(test)]
-mod tests;
 
 ghost use Rattle.std.specs.Prelude.{◌≡◌, true, IfOk};
 ghost use Rattle.vl_tree.specs.View.{module_of};

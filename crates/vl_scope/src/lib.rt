@@ -44,5 +44,3 @@ pub fn is_sound_in(top: &Module, scope: &Scope<'_>) -> bool
         && counts::stops_once(top)
 }
 
-#[cfg(test)]
-mod tests;
