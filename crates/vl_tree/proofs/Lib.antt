@@ -1,2 +1,5 @@
 pub mod Counter
 pub mod GrammarExamples
+pub mod SyntaxExamples
+pub mod BadPlaceExample
+pub mod NearestElseExample

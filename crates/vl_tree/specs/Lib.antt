@@ -3,3 +3,12 @@ pub mod Token
 pub mod Tree
 pub mod View
 pub mod Grammar
+pub mod Syntax
+pub mod SyntaxView
+pub mod Placed
+pub mod Piece
+pub mod Expressions
+pub mod Statements
+pub mod Modules
+pub mod Depth
+pub mod Derives

@@ -57,7 +57,7 @@ impl FaultKind {
 
 /// Where a fault stands: its line, from 1, and the number of its token, from 0, in the phases that read tokens.
 #[derive(Clone, Copy, Debug, PartialEq, Eq)]
-pub struct Place {
+pub struct FaultPlace {
     pub line: u32,
     pub token: Option<u32>,
 }
@@ -68,7 +68,7 @@ pub enum StaticFault {
     /// Its first fault: the phase that finds it, where it stands, and its kind.
     At {
         phase: u8,
-        place: Place,
+        place: FaultPlace,
         kind: FaultKind,
     },
     /// Out of memory.
@@ -82,7 +82,7 @@ impl StaticFault {
     {
         StaticFault::At {
             phase,
-            place: Place { line, token: None },
+            place: FaultPlace { line, token: None },
             kind,
         }
     }

@@ -1,0 +1,5 @@
+pub mod Pieces
+pub mod Fails
+pub mod Places
+pub mod Leads
+pub mod TokenRules
