@@ -174,11 +174,7 @@ fn append_file<R: Host>(rt: &R, name: &str, into: &mut Vec<u8>, most: u64) -> Re
 
 /// Appends all that a source has left to `into`, `most` bytes at the most. `Failed`: a read failed; `TooLong`: more bytes
 /// are left; `Memory`: out of memory. After a refusal `into` holds a part of them.
-pub fn append_all<S: Source>(
-    source: &mut S,
-    into: &mut Vec<u8>,
-    most: u64,
-) -> Result<(), LoadFault>
+pub fn append_all<S: Source>(source: &mut S, into: &mut Vec<u8>, most: u64) -> Result<(), LoadFault>
     ensures reads { ReadsWhole (S.left source.old) (S.left source.new) (S.faults source.old) (S.faults source.new)
         most into.old.items into.new.items result }
     ensures front { take (length into.old.items) into.new.items ≡ into.old.items }

@@ -4,12 +4,12 @@
 //! always @(posedge clk) begin if (up == 1) r <= r + 1; else if (r == 9) begin $display("r hit %0d", r); $stop; end else r <= 0; end
 //! endmodule`
 
-use vl_scope::is_sound;
-use vl_scope::scope::Scope;
 use dt_core::text::Text;
 use sqlite_items::{Boxed, Items};
 use std::alloc::Global;
 use std::test::Fail;
+use vl_scope::is_sound;
+use vl_scope::scope::Scope;
 use vl_tree::expr::{Binary, Expr, Primary};
 use vl_tree::token::Literal;
 use vl_tree::tree::{Branch, Module, Port, Stmt};

@@ -1,8 +1,8 @@
 //! Token lists from words, and what is read of them: the counter's tree, a table of bodies and one of whole designs, depth, a long chain.
 
-use vl_module::{SynFault, parse_module};
 use dt_core::text::Text;
 use std::test::Fail;
+use vl_module::{SynFault, parse_module};
 use vl_tree::expr::{Binary, Expr, Primary};
 use vl_tree::token::{Key, Literal, Mark, System, TokenKind};
 use vl_tree::tree::{Branch, Port, Stmt};

@@ -1,7 +1,7 @@
 //! Texts with their clean text, and texts with a fault.
 
-use vl_pre::{Clean, preprocess};
 use std::test::*;
+use vl_pre::{Clean, preprocess};
 use vl_tree::fault::{FaultKind, StaticFault};
 
 /// A text, and the bytes of its clean text by their lines.

@@ -1,8 +1,8 @@
 //! Texts that are designs, and texts with one fault each.
 
-use vl_front::{DesignFault, read_design};
 use std::alloc::Global;
 use std::test::*;
+use vl_front::{DesignFault, read_design};
 use vl_tree::fault::FaultKind;
 
 const HEADER: &[u8] =

@@ -1,7 +1,7 @@
 //! Texts with their tokens, and texts with a fault.
 
-use vl_lex::lex;
 use std::test::Fail;
+use vl_lex::lex;
 use vl_pre::preprocess;
 use vl_tree::fault::{FaultKind, StaticFault};
 use vl_tree::token::{Key, Mark, System, Token, TokenKind};

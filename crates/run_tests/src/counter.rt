@@ -4,13 +4,13 @@ ghost use Rattle.std.specs.Prelude.{◌≡◌, ◌+◌, ◌-◌, ◌^◌, ◌<�
 ghost use Rattle.flat_ir.specs.FlatRun as run;
 ghost use Rattle.flat_ir.specs.Fired.{some_fired};
 
-use plain_sim::sim::Sim;
-use plain_sim::steps::Steps;
 use dt_core::text::Text;
 use flat_ir::design::{Action, Deed, Node, Role, Signal, SignalKind};
 use flat_ir::flat::{Flat, FlatDraft};
 use flat_ir::order::Order;
 use flat_ir::state::FlatState;
+use plain_sim::sim::Sim;
+use plain_sim::steps::Steps;
 use std::alloc::Global;
 use std::marker::Brand;
 use std::process::Abort;

@@ -3,13 +3,13 @@
 
 ghost use Rattle.std.specs.Prelude.{◌≡◌, ◌≤◌, IfOk};
 
-use stim::reader::{StimFault, StimReader};
 use dt_core::text::Text;
 use dt_io::memory::MemSource;
 use flat_ir::design::{Role, Signal, SignalKind};
 use flat_ir::flat::{Flat, FlatDraft};
 use std::alloc::Global;
 use std::test::*;
+use stim::reader::{StimFault, StimReader};
 
 // A data input of one bit.
 fn input(alloc: Global, name: &[u8], number: u32) -> Result<Signal, Fail>

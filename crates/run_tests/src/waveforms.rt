@@ -3,7 +3,6 @@
 
 ghost use Rattle.std.specs.Prelude.{◌≡◌, length, IfOk};
 
-use vcd_text::writer::VcdWriter;
 use dt_core::text::Text;
 use dt_io::memory::MemSink;
 use flat_ir::design::{Role, Signal, SignalKind};
@@ -13,6 +12,7 @@ use flat_ir::state::FlatState;
 use plain_sim::sim::Sim;
 use std::alloc::Global;
 use std::test::*;
+use vcd_text::writer::VcdWriter;
 
 // A data input of one bit.
 fn input(alloc: Global, name: &[u8], number: u32) -> Result<Signal, Fail>
