@@ -1,5 +1,5 @@
 -- The window of a first failure: it is among the rows that were kept, and its waveform is that of all rows.
-use Rattle.std.proofs.Common.{◌≡◌, ℕ, zero, suc, ◌+◌, ◌*◌, ◌-◌, ◌<◌, ◌≤◌, List, [], ◌∷◌, ◌++◌, length, map, refl, sym, ap, subst, ◌∙◌, arith, length-append, inl, inr}
+use Rattle.std.proofs.Common.{◌≡◌, ℕ, zero, suc, ◌+◌, ◌*◌, ◌-◌, ◌<◌, ◌≤◌, List, [], ◌∷◌, ◌++◌, length, map, refl, sym, ap, subst, ◌∙◌, arith, inl, inr}
 use Rattle.std.specs.Prelude.{Option, Some, Result, slice_index_or}
 use Rattle.std.proofs.Math.ListN.{get_or-append}
 use Rattle.flat_ir.specs.FlatRun.{Flat, flat_state, flat_next}

@@ -1,10 +1,10 @@
 -- Each line of the text of a design is the line of the file that its spot names.
-use Rattle.std.proofs.Common.{◌≡◌, ℕ, zero, suc, ◌+◌, ◌-◌, ◌==◌, ◌≤◌, Bool, true, false, cond, List, [], ◌∷◌, ◌++◌, length, take, refl, sym, ap, subst, ◌∙◌, arith, append-nil}
+use Rattle.std.proofs.Common.{◌≡◌, ℕ, zero, suc, ◌+◌, ◌-◌, ◌==◌, ◌≤◌, Bool, true, false, cond, List, [], ◌∷◌, ◌++◌, take, refl, sym, ap, subst, ◌∙◌, arith, append-nil}
 use Rattle.std.specs.Prelude.{nat_le}
 use Rattle.std.specs.List.{count_by}
 use Rattle.std.proofs.lemmas.List.Sums.{sum_by-cons, sum_by-append}
 use Rattle.std.proofs.lemmas.Bool.Decides.{nat_tests}
-use Rattle.dessert.specs.Sources.{ends_line, closed, design_text, line_count, Spot, spot, origins_of, spot_in, line_at, IsSpot, SpotsAreRight}
+use Rattle.dessert.specs.Sources.{ends_line, closed, design_text, line_count, Spot, origins_of, spot_in, line_at, IsSpot, SpotsAreRight}
 
 -- how many lines a text has: one for each LF
 abbrev ends : List ℕ → ℕ

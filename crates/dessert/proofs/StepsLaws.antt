@@ -1,8 +1,8 @@
 -- How many steps a call counts.
-use Rattle.std.proofs.Common.{◌≡◌, ◌≤◌, ◌+◌, ◌*◌, ◌<◌, ℕ, List, [], refl, sym, ap, subst, ◌∙◌, inl, inr, arith}
+use Rattle.std.proofs.Common.{◌≡◌, ◌≤◌, ◌+◌, ◌*◌, ◌<◌, ℕ, List, [], ap, inl, inr, arith}
 use Rattle.std.proofs.KnownBytes.{Consumes-nil}
 use Rattle.dessert.specs.Outside.{SourceAt, SinkAt}
-use Rattle.dessert.specs.Answer.{Status, failure, writing, memory, reporting}
+use Rattle.dessert.specs.Answer.{Status, failure, writing}
 use Rattle.dessert.specs.Steps.{period, most_kept, again, AreFew}
 use Rattle.dessert.specs.Calls.Rows.{StepsEach}
 use Rattle.dessert.specs.Calls.Writing.{Wrote, Reported}

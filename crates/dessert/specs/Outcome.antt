@@ -1,6 +1,6 @@
 -- What comes of a job and bytes: the files are a module with one clocked block, the stimulus is run to its end, and the window of the
 -- first failure is written. This project's own.
-use Rattle.std.specs.Prelude.{◌≡◌, ℕ, zero, suc, ◌-◌, Bool, true, false, List, [], ◌∷◌, length, map, Option, Some, None, is_some, Err, ◌⊎◌}
+use Rattle.std.specs.Prelude.{◌≡◌, ℕ, zero, suc, ◌-◌, true, false, List, [], ◌∷◌, length, map, Option, Some, None, is_some, Err, ◌⊎◌}
 use Rattle.vl_tree.specs.Tree.{Module}
 use Rattle.vl_meaning.specs.Objects.{data_inputs}
 use Rattle.vl_meaning.specs.Run.{fires, first_failure}

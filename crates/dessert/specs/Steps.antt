@@ -4,7 +4,7 @@ use Rattle.std.specs.List.{count_by}
 use Rattle.std.specs.Io.KnownBytes.{Consumes}
 use Rattle.dessert.specs.Outside.{SourceAt}
 use Rattle.dessert.specs.Answer.{Status, quiet, failure, usage, design, input, file, reading, writing, reporting, memory, Words, allowed, bad}
-use Rattle.dessert.specs.Words.{Job, words_of}
+use Rattle.dessert.specs.Words.{Job}
 
 -- a state is copied once in so many rows, so that states are copied seldom under a small lag too
 abbrev pub shortest_period : ℕ

@@ -1,6 +1,7 @@
 //! Clean text: the text of a design once comments, directives and macros are replaced.
 //!
-//! Below: `dt_core`, `indexmap` (the table of macros). Above: `vl_lex` (clean text to tokens).
+//! Below: `dt_core`, `vl_tree` (the one fault of a text), `indexmap` (the table of macros). Above: `vl_lex` (clean text to tokens), which
+//! takes `bytes` and `tables` from here too.
 //! Promise: `preprocess` gives exactly the bytes that `specs/CleanText` says, each with its line, or exactly the first fault in order of
 //! reading, with its line. A `Clean` is a list of bytes with their lines, at most 16,777,216 of them.
 //! Time is linear in the text and the clean text, but for uses of macros: where one use on a line of the text stands round others, each

@@ -1,6 +1,6 @@
-use Rattle.std.proofs.Common.{◌≡◌, ℕ, List, refl, sym, ap, subst, ◌∙◌, inl, inr}
+use Rattle.std.proofs.Common.{◌≡◌, ℕ, List, refl, sym, ap, subst, inl, inr}
 use Rattle.std.proofs.KnownBytes.{Keeps-refl}
-use Rattle.dessert.specs.Outside.{FilesAt, files_at, source_at, sink_at, streams_at, outside_at}
+use Rattle.dessert.specs.Outside.{FilesAt, files_at, source_at, streams_at, outside_at}
 use Rattle.dessert.specs.Report.{usage_text, file_failed_text, file_long_text}
 use Rattle.dessert.specs.Answer.{Words, usage, memory, allowed, Answers}
 use Rattle.dessert.specs.Outcome.{layers}

@@ -1,9 +1,9 @@
-use Rattle.std.proofs.Common.{◌≡◌, ◌≤◌, ◌+◌, ◌-◌, ℕ, List, map, refl, sym, subst, ◌∙◌, arith}
+use Rattle.std.proofs.Common.{◌≡◌, ◌-◌, ℕ, map, refl, subst, ◌∙◌}
 use Rattle.std.specs.Prelude.{Ok, Err, IfOk}
 use Rattle.flat_ir.specs.FlatRun.{Flat}
 use Rattle.vcd_text.specs.declared.fault.VcdFault.TheVariants as fault
 use Rattle.dessert.specs.Outside.{sink_at}
-use Rattle.dessert.specs.Report.{stop_of, failure_text, write_failed_text}
+use Rattle.dessert.specs.Report.{stop_of, failure_text}
 use Rattle.dessert.specs.Answer.{memory}
 use Rattle.dessert.specs.Calls.Ended.{status_of}
 use Rattle.dessert.proofs.StepsLaws.{reported_again, wrote_again, lag_below, runs_again}

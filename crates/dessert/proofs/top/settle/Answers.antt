@@ -1,4 +1,4 @@
-use Rattle.std.proofs.Common.{◌≡◌, ℕ, sym, subst, inl, refl, arith}
+use Rattle.std.proofs.Common.{◌≡◌, ℕ, sym, subst, inl, arith}
 use Rattle.std.specs.Prelude.{Option, IfOk}
 use Rattle.dessert.specs.Outside.{sink_at}
 use Rattle.dessert.specs.Report.{quiet_text}
