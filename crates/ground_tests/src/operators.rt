@@ -55,7 +55,7 @@ enum Number {
 
 use Number::{Far, Least, One, Ones, Top, Width, Zero};
 
-fn number(edge: &Edge, number: Number) -> u128 {
+fn value_of(edge: &Edge, number: Number) -> u128 {
     match number {
         Zero => 0,
         One => 1,
@@ -111,10 +111,16 @@ fn operators_hold_at_the_edges_of_machine_numbers(rt: HostRuntime) {
 
 fn two_operands(rt: &impl Abort, edge: &Edge) {
     for (op, signed, a, b, value) in &OF_TWO {
-        let got = of_two(*op, *signed, edge.width, number(edge, *a), number(edge, *b));
+        let got = of_two(
+            *op,
+            *signed,
+            edge.width,
+            value_of(edge, *a),
+            value_of(edge, *b),
+        );
         assert_eq!(rt;
             got,
-            Some(number(edge, *value)),
+            Some(value_of(edge, *value)),
             "{op:?} {signed} {}",
             edge.width
         );
@@ -123,10 +129,16 @@ fn two_operands(rt: &impl Abort, edge: &Edge) {
 
 fn shifts(rt: &impl Abort, edge: &Edge) {
     for (op, signed, a, b, value) in &SHIFTS {
-        let got = moved(*op, *signed, edge.width, number(edge, *a), number(edge, *b));
+        let got = moved(
+            *op,
+            *signed,
+            edge.width,
+            value_of(edge, *a),
+            value_of(edge, *b),
+        );
         assert_eq!(rt;
             got,
-            Some(number(edge, *value)),
+            Some(value_of(edge, *value)),
             "{op:?} {signed} {}",
             edge.width
         );
@@ -135,8 +147,8 @@ fn shifts(rt: &impl Abort, edge: &Edge) {
 
 fn one_operand(rt: &impl Abort, edge: &Edge) {
     for (op, a, value) in &OF_ONE {
-        let got = of_one(*op, edge.width, number(edge, *a));
-        assert_eq!(rt; got, Some(number(edge, *value)), "{op:?} {}", edge.width);
+        let got = of_one(*op, edge.width, value_of(edge, *a));
+        assert_eq!(rt; got, Some(value_of(edge, *value)), "{op:?} {}", edge.width);
     }
 }
 
