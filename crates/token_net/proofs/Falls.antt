@@ -4,20 +4,21 @@ use Rattle.std.proofs.Common.{if◌then◌else◌, refl, sym, ap, ◌∙◌, sub
 use Rattle.std.proofs.lemmas.Bool.{ne_eqb, cases_eq}
 use Rattle.token_net.specs.Families.{put, one_if, total}
 use Rattle.token_net.specs.Shape.{Shape, IsShape, Run}
-use Rattle.token_net.specs.Half.{Phase, idle, taking, quiet, firing, Half, verdict, HasNotEvaluated, HasEvaluated}
-use Rattle.token_net.specs.Half.{MayGive, MayClose}
-use Rattle.token_net.specs.Half.{after_take, after_evaluate, after_give, after_close}
+use Rattle.token_net.specs.SideState.{Phase, idle, taking, quiet, firing, SideState, verdict}
+use Rattle.token_net.specs.SideState.{HasNotEvaluated, HasEvaluated}
+use Rattle.token_net.specs.SideState.{MayGive, MayClose}
+use Rattle.token_net.specs.SideState.{after_take, after_evaluate, after_give, after_close}
 use Rattle.token_net.specs.Posts.{with_sight}
 use Rattle.token_net.specs.Posts.{Sight, Leader, Lagger, present, sight}
-use Rattle.token_net.specs.Network.{Side, leading, lagging, Config, position, half, Event, Enabled, after}
+use Rattle.token_net.specs.Network.{Side, leading, lagging, Config, position, side_state, Event, Enabled, after}
 use Rattle.token_net.specs.Network.{take, evaluate, give, raise, halt, fire, see, lag_raise, see_fire}
 use Rattle.token_net.specs.Holds.{course, Holds}
 use Rattle.token_net.specs.Left.{evaluations, differs, made, cycles_left, unreported, leader_left, lagger_left}
 use Rattle.token_net.specs.Left.{going_left, sight_left, left}
 use Rattle.token_net.proofs.Places.{put_cases, put_same, put_other, put_read, put_keeps, total_le, total_less}
 use Rattle.token_net.proofs.Narrow.{narrow}
-use Rattle.token_net.proofs.HalfKeeps.{Takes, Evaluates, evaluated_not_idle}
-use Rattle.token_net.proofs.NetworkKeeps.{take_rests, evaluate_rests, half_holds}
+use Rattle.token_net.proofs.SideKeeps.{Takes, Evaluates, evaluated_not_idle}
+use Rattle.token_net.proofs.NetworkKeeps.{take_rests, evaluate_rests, side_holds}
 use Rattle.token_net.proofs.NeverStuck.{true_or_false, no_difference, some_difference}
 use Rattle.token_net.proofs.PostsKeep.{sees_here, sees_there}
 
@@ -73,7 +74,7 @@ module _ (m : ℕ) (ends : ℕ → ℕ) (old : ℕ → Bool) (ch : ℕ) (there :
 module _ {S V : Type 0} (n : Shape S V) (shape : IsShape n) (rows : ℕ) where
   -- ---- one side
 
-  made_most : (h : Half S V) (p : ℕ) → p < n.parts → made n h p + 1 ≤ 2 * n.parts
+  made_most : (h : SideState S V) (p : ℕ) → p < n.parts → made n h p + 1 ≤ 2 * n.parts
   made_most h p l =
       let a = total_le n.channels (λ ch. one_if ((n.to ch == p) && h.taken ch)) (λ ch. one_if (n.to ch == p))
       (λ ch b. one_and (n.to ch == p) (h.taken ch)) in
@@ -89,13 +90,13 @@ module _ {S V : Type 0} (n : Shape S V) (shape : IsShape n) (rows : ℕ) where
       ap (λ (k : ℕ). 2 * n.parts * k) e ∙ omega arith
 
   -- the cycles that are left fall for p, and rise for nobody
-  record Lower (h g : Half S V) (a b : ℕ → ℕ) (p : ℕ) : Type 0 where
+  record Lower (h g : SideState S V) (a b : ℕ → ℕ) (p : ℕ) : Type 0 where
     all : (x : ℕ) → x < n.parts → cycles_left n rows g x (b x) ≤ cycles_left n rows h x (a x)
     less : cycles_left n rows g p (b p) < cycles_left n rows h p (a p)
 
-  module _ (at : ℕ → ℕ) (h : Half S V) where
+  module _ (at : ℕ → ℕ) (h : SideState S V) where
     -- where each has made as much as before, and more by one that has a cycle left
-    lower : (g : Half S V) (p : ℕ) → p < n.parts → at p < rows → ((x : ℕ) → x < n.parts → made n h x ≤ made n g x)
+    lower : (g : SideState S V) (p : ℕ) → p < n.parts → at p < rows → ((x : ℕ) → x < n.parts → made n h x ≤ made n g x)
         → made n h p < made n g p → Lower h g at at p
     lower g p l small more strict = record {
       all = λ x b. let m = more x b in omega (arith, m);
@@ -115,7 +116,7 @@ module _ {S V : Type 0} (n : Shape S V) (shape : IsShape n) (rows : ℕ) where
     evaluate_lower : (p : ℕ) → Evaluates n rows at h p → Lower h (after_evaluate n p (at p) h) at at p
     evaluate_lower p may =
         let v : Bool = n.fires p (at p) (h.own p) h.copy in
-        let g : Half S V = after_evaluate n p (at p) h in
+        let g : SideState S V = after_evaluate n p (at p) h in
         let z = evaluations_none (h.phase p) may.begun in
         let w = evaluations_verdict v in
         lower g p may.there may.small
@@ -151,7 +152,7 @@ module _ {S V : Type 0} (n : Shape S V) (shape : IsShape n) (rows : ℕ) where
     raise_lower : (b : ℕ → ℕ) (p : ℕ) → MayClose n h p → at p < rows → ((x : ℕ) → b x ≡ put p (at p + 1) at x)
         → Lower h (after_close n p h) at b p
     raise_lower b p may small raised =
-        let g : Half S V = after_close n p h in
+        let g : SideState S V = after_close n p h in
         let here : cycles_left n rows g p (b p) < cycles_left n rows h p (at p) = (
         let m = made_most h p may.there in
         let s = share (at p) small in
@@ -209,37 +210,37 @@ module _ {S V : Type 0} (n : Shape S V) (r : Run S V) (shape : IsShape n) where
       → ((x : ℕ) → x < n.parts → leader_left n d x ≤ leader_left n c x) → leader_left n d p < leader_left n c p
       → ((q : ℕ) → q < n.parts → lagger_left n d q ≤ lagger_left n c q)
       → ((q x : ℕ) → q < n.parts → x < n.parts → sight_left n d q x ≤ sight_left n c q x) → left n d < left n c
-  leader_falls c d p l going leads here lags sights =
-      let a = total_less n.parts (leader_left n d) (leader_left n c) p l here leads in
-      let b = total_le n.parts (lagger_left n d) (lagger_left n c) lags in
+  leader_falls c d p l going leaders here laggers sights =
+      let a = total_less n.parts (leader_left n d) (leader_left n c) p l here leaders in
+      let b = total_le n.parts (lagger_left n d) (lagger_left n c) laggers in
       let e = sights_le c d sights in
       omega (arith, a, b, e)
 
   -- ---- takes, evaluations and gives
 
-  leads_fall : (c : Config S V) (h : Half S V) (p : ℕ) → p < n.parts → (c.posts.leader p).halted ≡ false
-      → Lower n shape c.rows c.leads h (position leading c) (position leading c) p
-      → left n (record c { leads = h }) < left n c
-  leads_fall c h p l going low =
-      let d : Config S V = record c { leads = h } in
+  leaders_fall : (c : Config S V) (h : SideState S V) (p : ℕ) → p < n.parts → (c.posts.leader p).halted ≡ false
+      → Lower n shape c.rows c.leaders h (position leading c) (position leading c) p
+      → left n (record c { leaders = h }) < left n c
+  leaders_fall c h p l going low =
+      let d : Config S V = record c { leaders = h } in
       leader_falls c d p l going
       (λ x xl. leader_le c d x (λ e. e) (let a = low.all x xl in omega (arith, a)))
       (leader_less c d p going (let a = low.less in omega (arith, a)))
       (λ q ql. omega arith) (λ q x ql xl. omega arith)
 
-  lags_fall : (c : Config S V) (h : Half S V) (q : ℕ) → q < n.parts
-      → Lower n shape c.rows c.lags h (position lagging c) (position lagging c) q
-      → left n (record c { lags = h }) < left n c
-  lags_fall c h q l low =
-      let d : Config S V = record c { lags = h } in
+  laggers_fall : (c : Config S V) (h : SideState S V) (q : ℕ) → q < n.parts
+      → Lower n shape c.rows c.laggers h (position lagging c) (position lagging c) q
+      → left n (record c { laggers = h }) < left n c
+  laggers_fall c h q l low =
+      let d : Config S V = record c { laggers = h } in
       let a = total_less n.parts (lagger_left n d) (lagger_left n c) q l low.less low.all in
       omega (arith, a)
 
   -- a partition that has evaluated has a row
   small_evaluated : (s : Side) (c : Config S V) (p : ℕ) → Holds n r c → p < n.parts
-      → HasEvaluated ((half s c).phase p) → position s c p < c.rows
-  small_evaluated s c p old l v = ((half_holds n r shape s c old).part p l).below
-      (evaluated_not_idle ((half s c).phase p) v)
+      → HasEvaluated ((side_state s c).phase p) → position s c p < c.rows
+  small_evaluated s c p old l v = ((side_holds n r shape s c old).part p l).below
+      (evaluated_not_idle ((side_state s c).phase p) v)
 
   -- ---- raises
 
@@ -249,7 +250,7 @@ module _ {S V : Type 0} (n : Shape S V) (r : Run S V) (shape : IsShape n) where
       let l = en.2.there in
       let new : Leader = record (c.posts.leader p) { at = (c.posts.leader p).at + 1 } in
       let small = small_evaluated leading c p old l en.2.evaluated in
-      let low = raise_lower n shape c.rows (position leading c) c.leads (position leading d) p en.2 small
+      let low = raise_lower n shape c.rows (position leading c) c.leaders (position leading d) p en.2 small
       (λ x. put_read (λ (z : Leader). z.at) p new c.posts.leader x) in
       let halts : (x : ℕ) → (d.posts.leader x).halted ≡ (c.posts.leader x).halted = λ x.
       put_keeps (λ (z : Leader). z.halted) p new c.posts.leader x refl in
@@ -288,7 +289,7 @@ module _ {S V : Type 0} (n : Shape S V) (r : Run S V) (shape : IsShape n) where
       let d : Config S V = after n c (lag_raise q) in
       let new : Lagger = record (c.posts.lagger q) { at = (c.posts.lagger q).at + 1 } in
       let small = small_evaluated lagging c q old en.there en.evaluated in
-      let low = raise_lower n shape c.rows (position lagging c) c.lags (position lagging d) q en small
+      let low = raise_lower n shape c.rows (position lagging c) c.laggers (position lagging d) q en small
       (λ x. put_read (λ (z : Lagger). z.at) q new c.posts.lagger x) in
       let a = total_less n.parts (lagger_left n d) (lagger_left n c) q en.there low.less low.all in
       let b = sights_le c d (λ x p xl pl.
@@ -350,9 +351,9 @@ module _ {S V : Type 0} (n : Shape S V) (r : Run S V) (shape : IsShape n) where
       put_keeps (λ (z : Leader). z.at) p new c.posts.leader x refl in
       let halts : (x : ℕ) → (d.posts.leader x).halted ≡ (c.posts.leader x).halted = λ x.
       put_keeps (λ (z : Leader). z.halted) p new c.posts.leader x refl in
-      let cycles : (x : ℕ) → cycles_left n c.rows c.leads x (d.posts.leader x).at
-      ≡ cycles_left n c.rows c.leads x (c.posts.leader x).at =
-      λ x. ap (cycles_left n c.rows c.leads x) (at x) in
+      let cycles : (x : ℕ) → cycles_left n c.rows c.leaders x (d.posts.leader x).at
+      ≡ cycles_left n c.rows c.leaders x (c.posts.leader x).at =
+      λ x. ap (cycles_left n c.rows c.leaders x) (at x) in
       leader_falls c d p en.0 en.1.going
       (λ x xl. leader_le c d x (λ e. halts x ∙ e) (
       let m = one_most (not ((d.posts.leader x).seen == d.posts.fire)) in
@@ -382,9 +383,9 @@ module _ {S V : Type 0} (n : Shape S V) (r : Run S V) (shape : IsShape n) where
       λ x. ap (λ (b : Bool). one_if (not b)) (reports x) in
       let halts : (x : ℕ) → (d.posts.leader x).halted ≡ (c.posts.leader x).halted = λ x.
       put_keeps (λ (z : Leader). z.halted) p new c.posts.leader x refl in
-      let cycles : (x : ℕ) → cycles_left n c.rows c.leads x (d.posts.leader x).at
-      ≡ cycles_left n c.rows c.leads x (c.posts.leader x).at =
-      λ x. ap (cycles_left n c.rows c.leads x) (put_keeps (λ (z : Leader). z.at) p new c.posts.leader x refl) in
+      let cycles : (x : ℕ) → cycles_left n c.rows c.leaders x (d.posts.leader x).at
+      ≡ cycles_left n c.rows c.leaders x (c.posts.leader x).at =
+      λ x. ap (cycles_left n c.rows c.leaders x) (put_keeps (λ (z : Leader). z.at) p new c.posts.leader x refl) in
       let same : (k : ℕ) → k ≡ c.posts.fire → one_if (not (k == c.posts.fire)) ≡ 0 =
       λ k e. ap (λ (b : Bool). one_if (not b)) (eq-eqb k c.posts.fire e) in
       leader_falls c d p en.0 en.1.going
@@ -438,9 +439,9 @@ module _ {S V : Type 0} (n : Shape S V) (r : Run S V) (shape : IsShape n) where
       (λ (ne : x ≢ q). other x y (λ e. absurd (ne e))) (cases_eq x q))
       (λ (ne : y ≢ p). other x y (λ _. ne)) (cases_eq y p)) in
       let b = total_le n.parts (lagger_left n d) (lagger_left n c) (λ x xl.
-      let e : cycles_left n c.rows c.lags x (d.posts.lagger x).at
-      ≡ cycles_left n c.rows c.lags x (c.posts.lagger x).at =
-      ap (cycles_left n c.rows c.lags x) (put_keeps (λ (z : Lagger). z.at) q new c.posts.lagger x refl) in
+      let e : cycles_left n c.rows c.laggers x (d.posts.lagger x).at
+      ≡ cycles_left n c.rows c.laggers x (c.posts.lagger x).at =
+      ap (cycles_left n c.rows c.laggers x) (put_keeps (λ (z : Lagger). z.at) q new c.posts.lagger x refl) in
       omega (arith, e)) in
       let t : total n.parts (leader_left n d) ≤ total n.parts (leader_left n c) = omega arith in
       omega (arith, a, b, t)
@@ -448,24 +449,25 @@ module _ {S V : Type 0} (n : Shape S V) (r : Run S V) (shape : IsShape n) where
   -- ---- every event
 
   pub event_falls : (c : Config S V) (e : Event) → Holds n r c → Enabled n c e → left n (after n c e) < left n c
-  event_falls c (take leading ch) old en = leads_fall c (after_take n ch c.leads) (n.to ch)
+  event_falls c (take leading ch) old en = leaders_fall c (after_take n ch c.leaders) (n.to ch)
       (shape.to ch en.1.there) en.0.going
-      (take_lower n shape c.rows (position leading c) c.leads ch (take_rests n r shape leading c ch old en))
-  event_falls c (take lagging ch) old en = lags_fall c (after_take n ch c.lags) (n.to ch) (shape.to ch en.1.there)
-      (take_lower n shape c.rows (position lagging c) c.lags ch (take_rests n r shape lagging c ch old en))
-  event_falls c (evaluate leading p) old en = leads_fall c
-      (after_evaluate n p (c.posts.leader p).at c.leads) p en.1.there en.0.going
-      (evaluate_lower n shape c.rows (position leading c) c.leads p (evaluate_rests n r shape leading c p old en))
-  event_falls c (evaluate lagging q) old en = lags_fall c (after_evaluate n q (c.posts.lagger q).at c.lags) q en.1.there
-      (evaluate_lower n shape c.rows (position lagging c) c.lags q (evaluate_rests n r shape lagging c q old en))
+      (take_lower n shape c.rows (position leading c) c.leaders ch (take_rests n r shape leading c ch old en))
+  event_falls c (take lagging ch) old en = laggers_fall c (after_take n ch c.laggers) (n.to ch) (shape.to ch en.1.there)
+      (take_lower n shape c.rows (position lagging c) c.laggers ch (take_rests n r shape lagging c ch old en))
+  event_falls c (evaluate leading p) old en = leaders_fall c
+      (after_evaluate n p (c.posts.leader p).at c.leaders) p en.1.there en.0.going
+      (evaluate_lower n shape c.rows (position leading c) c.leaders p (evaluate_rests n r shape leading c p old en))
+  event_falls c (evaluate lagging q) old en = laggers_fall c
+      (after_evaluate n q (c.posts.lagger q).at c.laggers) q en.1.there
+      (evaluate_lower n shape c.rows (position lagging c) c.laggers q (evaluate_rests n r shape lagging c q old en))
   event_falls c (give leading ch) old en =
-      leads_fall c (after_give n ch (c.posts.leader (n.from ch)).at c.leads) (n.from ch)
+      leaders_fall c (after_give n ch (c.posts.leader (n.from ch)).at c.leaders) (n.from ch)
       (shape.from ch en.2.there) en.0.going
-      (give_lower n shape c.rows (position leading c) c.leads ch en.2
+      (give_lower n shape c.rows (position leading c) c.leaders ch en.2
       (small_evaluated leading c (n.from ch) old (shape.from ch en.2.there) en.2.evaluated))
   event_falls c (give lagging ch) old en =
-      lags_fall c (after_give n ch (c.posts.lagger (n.from ch)).at c.lags) (n.from ch) (shape.from ch en.2.there)
-      (give_lower n shape c.rows (position lagging c) c.lags ch en.2
+      laggers_fall c (after_give n ch (c.posts.lagger (n.from ch)).at c.laggers) (n.from ch) (shape.from ch en.2.there)
+      (give_lower n shape c.rows (position lagging c) c.laggers ch en.2
       (small_evaluated lagging c (n.from ch) old (shape.from ch en.2.there) en.2.evaluated))
   event_falls c (raise p) old en = raise_falls c p old en
   event_falls c (halt p) old en = halt_falls c p en

@@ -1,12 +1,12 @@
 -- What is left at the start, and what an extension adds to it.
 use Rattle.std.proofs.Common.{◌≡◌, ◌≢◌, ℕ, ◌+◌, ◌-◌, ◌*◌, ◌<◌, ◌≤◌, ◌==◌, ◌&&◌, not, Bool, true, false, true≢false}
 use Rattle.std.proofs.Common.{refl, sym, ap, ◌∙◌, inl, ⊎_elim, arith, eq-eqb}
-use Rattle.std.proofs.lemmas.Bool.{ne_eqb, cases_lt, cases_eq}
+use Rattle.std.proofs.lemmas.Bool.{ne_eqb, lt-ltb, cases_lt, cases_eq}
 use Rattle.std.proofs.lemmas.List.{get_or-replicate}
 use Rattle.token_net.specs.Families.{one_if, total}
 use Rattle.token_net.specs.Shape.{Shape, IsShape, Run}
 use Rattle.token_net.specs.Posts.{most_rows}
-use Rattle.token_net.specs.Half.{Phase, idle, taking, quiet, firing, Half, HalfHolds}
+use Rattle.token_net.specs.SideState.{Phase, idle, taking, quiet, firing, SideState, SideHolds}
 use Rattle.token_net.specs.Posts.{Sight, present, going_on, sight, none_yet}
 use Rattle.token_net.specs.Network.{leading, lagging, Config, position, start}
 use Rattle.token_net.specs.Holds.{Holds}
@@ -14,7 +14,7 @@ use Rattle.token_net.specs.Left.{differs, made, cycles_left, unreported, leader_
 use Rattle.token_net.specs.Extension.{MayExtend, extended}
 use Rattle.token_net.specs.Laws.{for_rows, for_none}
 use Rattle.token_net.proofs.Places.{total_raised, total_same}
-use Rattle.token_net.proofs.PostsKeep.{unseen, extended_sight}
+use Rattle.token_net.proofs.PostsKeep.{unseen, extended_sight, extended_reported}
 use Rattle.token_net.proofs.NetworkKeeps.{start_holds}
 use Rattle.token_net.proofs.NeverStuck.{true_or_false, no_difference, each_lagger_idle}
 use Rattle.token_net.proofs.Falls.{one_off}
@@ -28,24 +28,24 @@ idle_unless firing not = absurd (not (λ e. absurd cc))
 module _ {S V : Type 0} (n : Shape S V) (r : Run S V) (shape : IsShape n) where
   -- ---- what an idle partition has made
 
-  nothing_made : (rows : ℕ) (at : ℕ → ℕ) (h : Half S V) (p : ℕ) → HalfHolds n r rows at h → h.phase p ≡ idle
+  nothing_made : (rows : ℕ) (at : ℕ → ℕ) (h : SideState S V) (p : ℕ) → SideHolds n r rows at h → h.phase p ≡ idle
       → made n h p ≡ 0
   nothing_made rows at h p old i =
       let x = total_same n.channels (λ ch. one_if ((n.to ch == p) && h.taken ch)) 0 (λ k l. ⊎_elim
       (λ (e : n.to k ≡ p).
-      let z : h.taken k ≡ false = (old.channel k l).idle_took_none (ap h.phase e ∙ i) in
+      let z : h.taken k ≡ false = (old.channel k l).taker.idle_took_none (ap h.phase e ∙ i) in
       ap (λ (y : Bool). one_if ((n.to k == p) && y)) z ∙ one_off (n.to k == p))
       (λ (ne : n.to k ≢ p). ap (λ (y : Bool). one_if (y && h.taken k)) (ne_eqb (n.to k) p ne)) (cases_eq (n.to k) p)) in
       let y = total_same n.channels (λ ch. one_if ((n.from ch == p) && h.given ch)) 0 (λ k l. ⊎_elim
       (λ (e : n.from k ≡ p).
-      let z : h.given k ≡ false = (old.channel k l).gave_none_yet (inl (ap h.phase e ∙ i)) in
+      let z : h.given k ≡ false = (old.channel k l).giver.gave_none_yet (inl (ap h.phase e ∙ i)) in
       ap (λ (y : Bool). one_if ((n.from k == p) && y)) z ∙ one_off (n.from k == p))
       (λ (ne : n.from k ≢ p). ap (λ (y : Bool). one_if (y && h.given k)) (ne_eqb (n.from k) p ne))
       (cases_eq (n.from k) p)) in
       rw i (omega (arith, x, y))
 
   -- an idle partition's cycles
-  cycles_whole : (rows : ℕ) (at : ℕ → ℕ) (h : Half S V) (p more t : ℕ) → HalfHolds n r rows at h → h.phase p ≡ idle
+  cycles_whole : (rows : ℕ) (at : ℕ → ℕ) (h : SideState S V) (p more t : ℕ) → SideHolds n r rows at h → h.phase p ≡ idle
       → cycles_left n more h p t ≡ 2 * n.parts * (more - t)
   cycles_whole rows at h p more t old i = let a = nothing_made rows at h p old i in omega (arith, a)
 
@@ -57,17 +57,17 @@ module _ {S V : Type 0} (n : Shape S V) (r : Run S V) (shape : IsShape n) where
       let old = start_holds n r shape rows in
       let all : rows - 0 ≡ rows = omega arith in
       let whole : 2 * n.parts * (rows - 0) ≡ 2 * n.parts * rows = ap (λ (k : ℕ). 2 * n.parts * k) all in
-      let leads : (p : ℕ) → cycles_left n rows c.leads p 0 ≡ 2 * n.parts * rows =
-      λ p. cycles_whole rows (position leading c) c.leads p rows 0 old.leads refl ∙ whole in
-      let lags : (p : ℕ) → cycles_left n rows c.lags p 0 ≡ 2 * n.parts * rows =
-      λ p. cycles_whole rows (position lagging c) c.lags p rows 0 old.lags refl ∙ whole in
+      let leaders : (p : ℕ) → cycles_left n rows c.leaders p 0 ≡ 2 * n.parts * rows =
+      λ p. cycles_whole rows (position leading c) c.leaders p rows 0 old.leaders refl ∙ whole in
+      let laggers : (p : ℕ) → cycles_left n rows c.laggers p 0 ≡ 2 * n.parts * rows =
+      λ p. cycles_whole rows (position lagging c) c.laggers p rows 0 old.laggers refl ∙ whole in
       let u : unreported n c ≡ n.parts * 1 =
       total_same n.parts (λ p. one_if (not (c.posts.leader p).reported)) 1 (λ _ _. refl) in
       let a : total n.parts (leader_left n c) ≡ n.parts * (2 + 2 * n.parts * rows + n.parts) =
       total_same n.parts (leader_left n c) (2 + 2 * n.parts * rows + n.parts) (λ p l.
-      let b = leads p in omega (arith, b, u)) in
+      let b = leaders p in omega (arith, b, u)) in
       let b : total n.parts (lagger_left n c) ≡ n.parts * (2 * n.parts * rows) =
-      total_same n.parts (lagger_left n c) (2 * n.parts * rows) (λ q l. lags q) in
+      total_same n.parts (lagger_left n c) (2 * n.parts * rows) (λ q l. laggers q) in
       let d : total n.parts (λ q. total n.parts (sight_left n c q)) ≡ n.parts * (n.parts * (rows + 1)) =
       total_same n.parts (λ q. total n.parts (sight_left n c q)) (n.parts * (rows + 1)) (λ q ql.
       total_same n.parts (sight_left n c q) (rows + 1) (λ p pl.
@@ -86,7 +86,7 @@ module _ {S V : Type 0} (n : Shape S V) (r : Run S V) (shape : IsShape n) where
     none_reported p l = ⊎_elim
         (λ (rep : (c.posts.leader p).reported ≡ true).
         let m = old.posts.leader p l in
-        let a = (m.reports rep).1 in
+        let a = (m.reports rep).2 in
         let b = m.within in
         let none = may.no_fire in
         absurd (omega (arith, a, b, none, few)))
@@ -114,42 +114,43 @@ module _ {S V : Type 0} (n : Shape S V) (r : Run S V) (shape : IsShape n) where
         let a = m.later in let b = f.0 in let none = may.no_fire in absurd (omega (arith, a, b, none, few)))
         m.saw
 
-    leader_idle : (p : ℕ) → p < n.parts → c.leads.phase p ≡ idle
-    leader_idle p l = idle_unless (c.leads.phase p)
-        (λ ne. let a = (old.leads.part p l).below ne in let b = at_the_end p l in absurd (omega (arith, a, b)))
+    leader_idle : (p : ℕ) → p < n.parts → c.leaders.phase p ≡ idle
+    leader_idle p l = idle_unless (c.leaders.phase p)
+        (λ ne. let a = (old.leaders.part p l).below ne in let b = at_the_end p l in absurd (omega (arith, a, b)))
 
-    lagger_idle : (q : ℕ) → q < n.parts → c.lags.phase q ≡ idle
-    lagger_idle q l = idle_unless (c.lags.phase q) (each_lagger_idle n r shape c old may.finished q l)
+    lagger_idle : (q : ℕ) → q < n.parts → c.laggers.phase q ≡ idle
+    lagger_idle q l = idle_unless (c.laggers.phase q) (each_lagger_idle n r shape c old may.finished q l)
 
     pub left_extends : (k : ℕ) → left n (extended n k c) ≡ left n c + for_rows n k + for_none n
     left_extends k =
         let d : Config S V = extended n k c in
         let was : total n.parts (leader_left n c) ≡ n.parts * 0 =
         total_same n.parts (leader_left n c) 0 (λ p l. rw (may.finished.leaders p l) refl) in
-        let u : unreported n c ≡ n.parts * 1 =
-        total_same n.parts (λ p. one_if (not (c.posts.leader p).reported)) 1 (λ p l. rw (none_reported p l) refl) in
-        let leads : total n.parts (leader_left n d) ≡ n.parts * (2 + 2 * n.parts * k + n.parts) =
+        let u : unreported n d ≡ n.parts * 1 =
+        total_same n.parts (λ p. one_if (not (d.posts.leader p).reported)) 1 (λ p l.
+        ap (λ (b : Bool). one_if (not b)) (extended_reported n.parts c.posts p ∙ none_reported p l)) in
+        let leaders : total n.parts (leader_left n d) ≡ n.parts * (2 + 2 * n.parts * k + n.parts) =
         total_same n.parts (leader_left n d) (2 + 2 * n.parts * k + n.parts) (λ p l.
         let a : one_if (not (c.posts.leader p).reported) ≡ 1 = ap (λ (b : Bool). one_if (not b)) (none_reported p l) in
         let b : one_if (not ((c.posts.leader p).seen == c.posts.fire)) ≡ 0 =
         ap (λ (x : Bool). one_if (not x)) (eq-eqb (c.posts.leader p).seen c.posts.fire (none_seen p l)) in
         let z = at_the_end p l in
         let rest : (c.rows + k) - (c.posts.leader p).at ≡ k = omega (arith, z) in
-        let e : cycles_left n (c.rows + k) c.leads p (c.posts.leader p).at ≡ 2 * n.parts * k =
-        cycles_whole c.rows (position leading c) c.leads p (c.rows + k) (c.posts.leader p).at old.leads
+        let e : cycles_left n (c.rows + k) c.leaders p (c.posts.leader p).at ≡ 2 * n.parts * k =
+        cycles_whole c.rows (position leading c) c.leaders p (c.rows + k) (c.posts.leader p).at old.leaders
         (leader_idle p l)
         ∙ ap (λ (x : ℕ). 2 * n.parts * x) rest in
-        omega (arith, a, b, e, u)) in
-        let lags : total n.parts (lagger_left n d) ≡ total n.parts (lagger_left n c) + n.parts * (2 * n.parts * k) =
+        rw (lt-ltb p n.parts l) (omega (arith, a, b, e, u))) in
+        let laggers : total n.parts (lagger_left n d) ≡ total n.parts (lagger_left n c) + n.parts * (2 * n.parts * k) =
         total_raised n.parts (lagger_left n d) (lagger_left n c) (2 * n.parts * k) (λ q l.
         let t : ℕ = (c.posts.lagger q).at in
-        let w = (old.lags.part q l).within in
+        let w = (old.laggers.part q l).within in
         let rest : (c.rows + k) - t ≡ (c.rows - t) + k = omega (arith, w) in
-        let a = cycles_whole c.rows (position lagging c) c.lags q (c.rows + k) t old.lags (lagger_idle q l) in
-        let b = cycles_whole c.rows (position lagging c) c.lags q c.rows t old.lags (lagger_idle q l) in
+        let a = cycles_whole c.rows (position lagging c) c.laggers q (c.rows + k) t old.laggers (lagger_idle q l) in
+        let b = cycles_whole c.rows (position lagging c) c.laggers q c.rows t old.laggers (lagger_idle q l) in
         let e : 2 * n.parts * ((c.rows + k) - t) ≡ 2 * n.parts * ((c.rows - t) + k) =
         ap (λ (x : ℕ). 2 * n.parts * x) rest in
-        omega (arith, a, b, e)) in
+        rw (lt-ltb q n.parts l) (omega (arith, a, b, e))) in
         let sights : total n.parts (λ q. total n.parts (sight_left n d q))
         ≡ total n.parts (λ q. total n.parts (sight_left n c q)) + n.parts * (n.parts * (k + 1)) =
         total_raised n.parts (λ q. total n.parts (sight_left n d q)) (λ q. total n.parts (sight_left n c q))
@@ -158,12 +159,12 @@ module _ {S V : Type 0} (n : Shape S V) (r : Run S V) (shape : IsShape n) where
         let z = at_the_end p pl in
         let seen = (old.posts.sight q p ql pl).last ((may.finished.laggers q ql).halts p pl) in
         let now : one_if (differs (sight (d.posts.lagger q) p) (going_on (c.posts.leader p))) ≡ 0 =
-        ap (λ (s : Sight). one_if (differs s (going_on (c.posts.leader p)))) (extended_sight n.parts c.posts q p pl)
+        ap (λ (s : Sight). one_if (differs s (going_on (c.posts.leader p)))) (extended_sight n.parts c.posts q p ql pl)
         ∙ ap one_if (no_difference (going_on (c.posts.leader p))) in
         let before : one_if (differs (sight (c.posts.lagger q) p) (present (c.posts.leader p))) ≡ 0 =
         ap (λ (s : Sight). one_if (differs s (present (c.posts.leader p)))) seen
         ∙ ap one_if (no_difference (present (c.posts.leader p))) in
         let h : one_if (not (c.posts.leader p).halted) ≡ 0 =
         ap (λ (b : Bool). one_if (not b)) (may.finished.leaders p pl) in
-        omega (arith, z, now, before, h))) in
-        omega (arith, was, leads, lags, sights)
+        rw (lt-ltb p n.parts pl) (omega (arith, z, now, before, h)))) in
+        omega (arith, was, leaders, laggers, sights)

@@ -1,6 +1,6 @@
 pub mod Places
 pub mod Narrow
-pub mod HalfKeeps
+pub mod SideKeeps
 pub mod PostsKeep
 pub mod PostsEnd
 pub mod NetworkKeeps

@@ -1,14 +1,15 @@
--- Worked examples: two partitions that exchange a bit each cycle, over one row; and the lag rule with leaders at 7
--- and 5.
+-- Worked examples: two partitions that exchange a bit each cycle, over one row and then two more; the lag rule with
+-- leaders at 7 and 5; and a leader that has seen a fire.
 use Rattle.std.proofs.Common.{◌≡◌, ℕ, zero, suc, ◌+◌, ◌-◌, ◌<◌, ◌≤◌, ◌==◌, Bool, true, false, not, if◌then◌else◌}
 use Rattle.std.proofs.Common.{List, [], ◌∷◌, length, refl, ap, ◌∙◌, inl, inr, ⊎_elim, arith}
 use Rattle.token_net.specs.Shape.{Shape, IsShape, Run, AreTokens, IsRun}
-use Rattle.token_net.specs.Half.{idle, taking, quiet, firing}
-use Rattle.token_net.specs.Posts.{Posts, Course, KeepsLag, none_yet, after_fire}
+use Rattle.token_net.specs.SideState.{SideState, idle, taking, quiet, firing}
+use Rattle.token_net.specs.Posts.{Posts, Course, KeepsLag, LeaderRuns, none_yet, present, sight, after_fire}
+use Rattle.token_net.specs.End.{IsDone}
 use Rattle.token_net.specs.Network.{leading, lagging, Config, Enabled, MayStart, after, start}
-use Rattle.token_net.specs.Network.{take, evaluate, give, raise, halt, see}
+use Rattle.token_net.specs.Network.{take, evaluate, give, raise, halt, see, lag_raise}
 use Rattle.token_net.specs.Left.{left}
-use Rattle.token_net.specs.Extension.{Step, event, after_step}
+use Rattle.token_net.specs.Extension.{Step, event, extension, MayStep, after_step}
 
 -- ---- two partitions: a takes b, and b takes a, turned in the cycles in which the input is 1
 
@@ -79,10 +80,10 @@ left_after_the_take : left one_row (after one_row begun (take leading 0)) ≡ 31
 left_after_the_take = refl
 
 -- the taker is taking, the channel is empty
-taker_is_taking : (after one_row begun (take leading 0)).leads.phase 1 ≡ taking
+taker_is_taking : (after one_row begun (take leading 0)).leaders.phase 1 ≡ taking
 taker_is_taking = refl
 
-channel_is_empty : (after one_row begun (take leading 0)).leads.held 0 ≡ []
+channel_is_empty : (after one_row begun (take leading 0)).leaders.held 0 ≡ []
 channel_is_empty = refl
 
 -- ---- a whole cycle of the leaders, then what the laggers may do
@@ -100,11 +101,11 @@ a_cycle =
 abbrev leaders_done : Config Bool Bool
 leaders_done = steps_of begun a_cycle
 
-own_states : (leaders_done.leads.own 0 ≡ false) × (leaders_done.leads.own 1 ≡ true)
+own_states : (leaders_done.leaders.own 0 ≡ false) × (leaders_done.leaders.own 1 ≡ true)
 own_states = (refl, refl)
 
-next_tokens : (leaders_done.leads.held 0 ≡ record { cycle = 1; values = false } ∷ [])
-    × (leaders_done.leads.held 1 ≡ record { cycle = 1; values = true } ∷ [])
+next_tokens : (leaders_done.leaders.held 0 ≡ record { cycle = 1; values = false } ∷ [])
+    × (leaders_done.leaders.held 1 ≡ record { cycle = 1; values = true } ∷ [])
 next_tokens = (refl, refl)
 
 left_after_the_leaders : left one_row leaders_done ≡ 12
@@ -118,6 +119,72 @@ seen_start : MayStart one_row lagging (steps_of leaders_done (event (see 0 0) �
 seen_start zero l = omega arith
 seen_start (suc zero) l = omega arith
 seen_start (suc (suc k)) l = absurd (omega (arith, l))
+
+-- ---- what holds of both partitions holds of each
+
+below_two : (P : ℕ → Type 0) → P 0 → P 1 → (k : ℕ) → k < 2 → P k
+below_two P a b zero l = a
+below_two P a b (suc zero) l = b
+below_two P a b (suc (suc k)) l = absurd (omega (arith, l))
+
+-- ---- the laggers' cycle, and then two rows more
+
+abbrev laggers_cycle : List Step
+laggers_cycle =
+    event (see 0 0) ∷ event (see 0 1) ∷ event (see 1 0) ∷ event (see 1 1) ∷ event (take lagging 0)
+    ∷ event (take lagging 1) ∷ event (evaluate lagging 0) ∷ event (evaluate lagging 1) ∷ event (give lagging 0)
+    ∷ event (give lagging 1) ∷ event (lag_raise 0) ∷ event (lag_raise 1) ∷ []
+
+abbrev all_done : Config Bool Bool
+all_done = steps_of leaders_done laggers_cycle
+
+nothing_left : left one_row all_done ≡ 0
+nothing_left = refl
+
+may_extend : MayStep one_row all_done (extension 2)
+may_extend = record {
+  finished = record {
+    leaders = below_two (λ p. (all_done.posts.leader p).halted ≡ true) refl refl;
+    laggers = below_two (λ q. IsDone 2 0 (all_done.posts.lagger q)) done_zero done_one;
+  };
+  no_fire = refl;
+}
+  where
+    done_zero : IsDone 2 0 (all_done.posts.lagger 0)
+    done_zero = record {
+      halts = below_two (λ p. (sight (all_done.posts.lagger 0) p).halted ≡ true) refl refl;
+      near = (0, omega arith, omega arith);
+    }
+
+    done_one : IsDone 2 0 (all_done.posts.lagger 1)
+    done_one = record {
+      halts = below_two (λ p. (sight (all_done.posts.lagger 1) p).halted ≡ true) refl refl;
+      near = (0, omega arith, omega arith);
+    }
+
+-- the leaders go on from 1 with 3 rows, and a lagger has seen them there, not halted
+abbrev longer : Config Bool Bool
+longer = after_step one_row all_done (extension 2)
+
+three_rows : longer.rows ≡ 3
+three_rows = refl
+
+goes_on : (present (longer.posts.leader 1) ≡ record { at = 1; halted = false })
+    × (sight (longer.posts.lagger 0) 1 ≡ record { at = 1; halted = false })
+goes_on = (refl, refl)
+
+left_after_the_extension : left one_row longer ≡ 52
+left_after_the_extension = refl
+
+next_take : Enabled one_row longer (take leading 0)
+next_take = (
+  record { going = refl; clear = omega arith },
+  record {
+    there = omega arith;
+    ready = inl (refl, omega arith);
+    some = λ none. absurd (let l = ap length none in omega (arith, l));
+  },
+)
 
 -- ---- the lag rule: leaders at 7 and 5, lag 4
 
@@ -157,12 +224,39 @@ waits_at_one may = let a = may 1 (omega arith) in absurd (omega (arith, a))
 least_fire : (after_fire 1 (after_fire 0 (at_seven_and_five 0))).fire ≡ 5
 least_fire = refl
 
--- ---- the laws speak of something: the pair is a network, and the run is its own
+-- ---- a leader at 6 that has seen a fire at 5, whatever the leaders hold, takes, evaluates, gives and raises nothing
 
-below_two : (P : ℕ → Type 0) → P 0 → P 1 → (k : ℕ) → k < 2 → P k
-below_two P a b zero l = a
-below_two P a b (suc zero) l = b
-below_two P a b (suc (suc k)) l = absurd (omega (arith, l))
+abbrev past_a_fire : SideState Bool Bool → Config Bool Bool
+past_a_fire h = record begun {
+  rows = 10;
+  leaders = h;
+  posts = record (at_seven_and_five 0) {
+    leader = λ p. record { at = 6; halted = false; reported = false; seen = 5 };
+    fire = 5;
+  };
+}
+
+module _ (h : SideState Bool Bool) where
+  no_run : LeaderRuns ((past_a_fire h).posts.leader 0) → ⊥
+  no_run runs = let a = runs.clear in absurd (omega (arith, a))
+
+  no_take_past_a_fire : Enabled one_row (past_a_fire h) (take leading 1) → ⊥
+  no_take_past_a_fire en = no_run en.0
+
+  no_evaluation_past_a_fire : Enabled one_row (past_a_fire h) (evaluate leading 0) → ⊥
+  no_evaluation_past_a_fire en = no_run en.0
+
+  no_give_past_a_fire : Enabled one_row (past_a_fire h) (give leading 0) → ⊥
+  no_give_past_a_fire en = no_run en.0
+
+  no_raise_past_a_fire : Enabled one_row (past_a_fire h) (raise 0) → ⊥
+  no_raise_past_a_fire en = no_run en.0
+
+  -- it may halt
+  halts_past_a_fire : Enabled one_row (past_a_fire h) (halt 0)
+  halts_past_a_fire = (omega arith, record { going = refl; why = inr (inr (omega arith)) })
+
+-- ---- the laws speak of something: the pair is a network, and the run is its own
 
 pair_is_shape : (d : ℕ → Bool) (lag : ℕ) → IsShape (pair d lag)
 pair_is_shape d lag = record {

@@ -5,18 +5,20 @@ use Rattle.std.proofs.Common.{refl, sym, ap, ◌∙◌, subst, inl, inr, ⊎_eli
 use Rattle.std.proofs.lemmas.Bool.{cases_lt, cases_eq}
 use Rattle.token_net.specs.Families.{one_if}
 use Rattle.token_net.specs.Shape.{Shape, IsShape, Run}
-use Rattle.token_net.specs.Half.{Phase, idle, taking, quiet, firing, Half, HasNotEvaluated, HasEvaluated, HasTakenAll}
-use Rattle.token_net.specs.Half.{HasNoInput}
-use Rattle.token_net.specs.Half.{MayTake, MayEvaluate, MayGive, MayClose, HalfHolds}
+use Rattle.token_net.specs.SideState.{Phase, idle, taking, quiet, firing, SideState}
+use Rattle.token_net.specs.SideState.{HasNotEvaluated, HasEvaluated, HasTakenAll}
+use Rattle.token_net.specs.SideState.{HasNoInput}
+use Rattle.token_net.specs.SideState.{MayTake, MayEvaluate, MayGive, MayClose, SideHolds}
 use Rattle.token_net.specs.Posts.{LeaderRuns}
 use Rattle.token_net.specs.Posts.{Sight, present, sight}
 use Rattle.token_net.specs.Network.{leading, lagging, Config, position, Event, Enabled, MayStart}
 use Rattle.token_net.specs.Network.{take, evaluate, give, raise, halt, fire, see, lag_raise, see_fire}
 use Rattle.token_net.specs.Holds.{Holds}
-use Rattle.token_net.specs.Left.{same_bit, differs}
+use Rattle.std.specs.Bool.{beq}
+use Rattle.token_net.specs.Left.{differs}
 use Rattle.token_net.specs.End.{Finished}
 use Rattle.token_net.proofs.Places.{search_for, IsLeast, least_of, least_place}
-use Rattle.token_net.proofs.HalfKeeps.{evaluated_not_idle, taking_not_idle}
+use Rattle.token_net.proofs.SideKeeps.{evaluated_not_idle, taking_not_idle}
 
 -- ---- bits and sights
 
@@ -42,18 +44,20 @@ pub true_or_false : (b : Bool) → (b ≡ true) ⊎ (b ≡ false)
 true_or_false true = inl refl
 true_or_false false = inr refl
 
-equal_bits : (a b : Bool) → same_bit a b ≡ true → a ≡ b
-equal_bits true b e = sym e
-equal_bits false b e = sym (is_false b e)
+equal_bits : (a b : Bool) → beq a b ≡ true → a ≡ b
+equal_bits true true e = refl
+equal_bits true false e = absurd (true≢false (sym e))
+equal_bits false true e = absurd (true≢false (sym e))
+equal_bits false false e = refl
 
-bit_as_itself : (b : Bool) → same_bit b b ≡ true
+bit_as_itself : (b : Bool) → beq b b ≡ true
 bit_as_itself true = refl
 bit_as_itself false = refl
 
 pub equal_sights : (a b : Sight) → differs a b ≡ false → a ≡ b
 equal_sights a b e =
-    let t = both (a.at == b.at) (same_bit a.halted b.halted)
-    (is_true ((a.at == b.at) && same_bit a.halted b.halted) e) in
+    let t = both (a.at == b.at) (beq a.halted b.halted)
+    (is_true ((a.at == b.at) && beq a.halted b.halted) e) in
     let x : a.at ≡ b.at = eqb-true a.at b.at t.0 in
     let y : a.halted ≡ b.halted = equal_bits a.halted b.halted t.1 in
     (λ i. record { at = x i; halted = y i })
@@ -83,12 +87,12 @@ firing_or_not firing = inl refl
 module _ {S V : Type 0} (n : Shape S V) (r : Run S V) (shape : IsShape n) where
   -- ---- one side: the partition that is furthest back may move
 
-  abbrev Moves : (ℕ → Type 0) → Half S V → ℕ → Type 0
+  abbrev Moves : (ℕ → Type 0) → SideState S V → ℕ → Type 0
   Moves starts h p =
       ((ch : ℕ) × MayTake n starts h ch × (n.to ch ≡ p))
       ⊎ (MayEvaluate n starts h p ⊎ (((ch : ℕ) × MayGive n h ch × (n.from ch ≡ p)) ⊎ MayClose n h p))
 
-  module _ (starts : ℕ → Type 0) (rows : ℕ) (at : ℕ → ℕ) (h : Half S V) (p : ℕ) (holds : HalfHolds n r rows at h)
+  module _ (starts : ℕ → Type 0) (rows : ℕ) (at : ℕ → ℕ) (h : SideState S V) (p : ℕ) (holds : SideHolds n r rows at h)
       (l : p < n.parts)
       (least : (q : ℕ) → q < n.parts → at p ≤ at q) where
     -- an input that wasn't taken holds a token
@@ -111,7 +115,7 @@ module _ {S V : Type 0} (n : Shape S V) (r : Run S V) (shape : IsShape n) where
                 (λ (t : h.phase p ≡ taking). inr (ap h.phase e ∙ t, new)) o;
             some = λ (none : h.held f.0 ≡ []).
                 let bare : length (h.held f.0) ≡ 0 = ap length none in
-                omega (arith, channel.count, order, here, z, bare);
+                omega (arith, channel.queue.count, order, here, z, bare);
           },
           e,
         ))
@@ -124,7 +128,7 @@ module _ {S V : Type 0} (n : Shape S V) (r : Run S V) (shape : IsShape n) where
               (λ (i : h.phase p ≡ idle). inr (
                 i,
                 (λ ch b e. true≢false (sym (all ch b e)
-                    ∙ (holds.channel ch b).idle_took_none (ap h.phase e ∙ i))),
+                    ∙ (holds.channel ch b).taker.idle_took_none (ap h.phase e ∙ i))),
                 may,
               ))
               (λ (t : h.phase p ≡ taking). inl (t, all)) o;
@@ -148,7 +152,7 @@ module _ {S V : Type 0} (n : Shape S V) (r : Run S V) (shape : IsShape n) where
             there = f.1;
             evaluated = subst (λ (q : ℕ). HasEvaluated (h.phase q)) (sym e) v;
             new = new;
-            room = omega (arith, channel.count, order, here, z, shape.deep);
+            room = omega (arith, channel.queue.count, order, here, z, shape.deep);
           },
           e,
         ))))
@@ -178,14 +182,14 @@ module _ {S V : Type 0} (n : Shape S V) (r : Run S V) (shape : IsShape n) where
       (λ (b : (c.posts.leader q).at < (c.posts.leader p).at).
       let m = holds.posts.leader q l in
       ⊎_elim (λ (rep : (c.posts.leader q).reported ≡ true).
-      let w = (m.reports rep).1 in absurd (omega (arith, w, b, clear)))
+      let w = (m.reports rep).2 in absurd (omega (arith, w, b, clear)))
       (λ (w : c.posts.fire < (c.posts.leader q).at). absurd (omega (arith, w, b, clear)))
       (m.stopped h (omega (arith, b, small))))
       (λ (g : (c.posts.leader p).at ≤ (c.posts.leader q).at). g) (cases_lt (c.posts.leader q).at (c.posts.leader p).at))
       (λ (h : (c.posts.leader q).halted ≡ false). least q l (ap not h)) (true_or_false (c.posts.leader q).halted)
 
-  leader_moves : (c : Config S V) (p : ℕ) → LeaderRuns (c.posts.leader p) → c.leads.phase p ≢ firing
-      → Moves (MayStart n leading c) c.leads p → Some c
+  leader_moves : (c : Config S V) (p : ℕ) → LeaderRuns (c.posts.leader p) → c.leaders.phase p ≢ firing
+      → Moves (MayStart n leading c) c.leaders p → Some c
   leader_moves c p runs calm (inl m) =
       (take leading m.0, (subst (λ (q : ℕ). LeaderRuns (c.posts.leader q)) (sym m.2) runs, m.1))
   leader_moves c p runs calm (inr (inl m)) = (evaluate leading p, (runs, m))
@@ -194,8 +198,9 @@ module _ {S V : Type 0} (n : Shape S V) (r : Run S V) (shape : IsShape n) where
     (
       subst (λ (q : ℕ). LeaderRuns (c.posts.leader q)) (sym m.2) runs,
       ⊎_elim
-          (λ (q : c.leads.phase (n.from m.0) ≡ quiet). q)
-          (λ (f : c.leads.phase (n.from m.0) ≡ firing). absurd (calm (ap c.leads.phase (sym m.2) ∙ f))) m.1.evaluated,
+          (λ (q : c.leaders.phase (n.from m.0) ≡ quiet). q)
+          (λ (f : c.leaders.phase (n.from m.0) ≡ firing). absurd (calm (ap c.leaders.phase (sym m.2) ∙ f)))
+          m.1.evaluated,
       m.1,
     ),
   )
@@ -204,7 +209,7 @@ module _ {S V : Type 0} (n : Shape S V) (r : Run S V) (shape : IsShape n) where
     (
       runs,
       ⊎_elim
-          (λ (q : c.leads.phase p ≡ quiet). q) (λ (f : c.leads.phase p ≡ firing). absurd (calm f)) m.evaluated,
+          (λ (q : c.leaders.phase p ≡ quiet). q) (λ (f : c.leaders.phase p ≡ firing). absurd (calm f)) m.evaluated,
       m,
     ),
   )
@@ -227,11 +232,11 @@ module _ {S V : Type 0} (n : Shape S V) (r : Run S V) (shape : IsShape n) where
       let small : (c.posts.leader p).at < c.rows = omega (arith, within, ne) in
       ⊎_elim
       (λ (same : c.posts.fire ≡ (c.posts.leader p).seen). ⊎_elim
-      (λ (f : c.leads.phase p ≡ firing). (fire p, (l, runs, f, rep)))
-      (λ (calm : c.leads.phase p ≢ firing). leader_moves c p runs calm
-      (last_moves (MayStart n leading c) c.rows (position leading c) c.leads p holds.leads l
+      (λ (f : c.leaders.phase p ≡ firing). (fire p, (l, runs, f, rep)))
+      (λ (calm : c.leaders.phase p ≢ firing). leader_moves c p runs calm
+      (last_moves (MayStart n leading c) c.rows (position leading c) c.leaders p holds.leaders l
       (last_of_all c p holds small (omega (arith, clear, same)) least) small))
-      (firing_or_not (c.leads.phase p)))
+      (firing_or_not (c.leaders.phase p)))
       (λ (new : c.posts.fire ≢ (c.posts.leader p).seen). (see_fire p, (l, runs, new)))
       (cases_eq c.posts.fire (c.posts.leader p).seen))
       (cases_lt (c.posts.leader p).seen (c.posts.leader p).at))
@@ -262,7 +267,7 @@ module _ {S V : Type 0} (n : Shape S V) (r : Run S V) (shape : IsShape n) where
       (sights_of c m (omega (arith, l))))
       (sights_below c m (omega (arith, l)))
 
-  lagger_moves : (c : Config S V) (q : ℕ) → Moves (MayStart n lagging c) c.lags q → Some c
+  lagger_moves : (c : Config S V) (q : ℕ) → Moves (MayStart n lagging c) c.laggers q → Some c
   lagger_moves c q (inl m) = (take lagging m.0, (tt, m.1))
   lagger_moves c q (inr (inl m)) = (evaluate lagging q, (tt, m))
   lagger_moves c q (inr (inr (inl m))) = (give lagging m.0, (tt, tt, m.1))
@@ -289,7 +294,7 @@ module _ {S V : Type 0} (n : Shape S V) (r : Run S V) (shape : IsShape n) where
         };
       })
       (λ (more : (c.posts.lagger q).at + 1 + n.lag ≤ (c.posts.leader k).at). inl (lagger_moves c q
-      (last_moves (MayStart n lagging c) c.rows (position lagging c) c.lags q holds.lags ql q_least
+      (last_moves (MayStart n lagging c) c.rows (position lagging c) c.laggers q holds.laggers ql q_least
       (λ p l.
       let e : (sight (c.posts.lagger q) p).at ≡ (c.posts.leader p).at = ap (λ (s : Sight). s.at) (saw q p ql l) in
       let o = k_least p l in
@@ -323,31 +328,32 @@ module _ {S V : Type 0} (n : Shape S V) (r : Run S V) (shape : IsShape n) where
     no_lagger_starts q l may =
         let d = (done.laggers q l).near in let a = may d.0 d.1 in let b = d.2 in absurd (omega (arith, a, b))
 
-    pub each_lagger_idle : (q : ℕ) → q < n.parts → c.lags.phase q ≢ idle → ⊥
+    pub each_lagger_idle : (q : ℕ) → q < n.parts → c.laggers.phase q ≢ idle → ⊥
     each_lagger_idle q l ne = no_lagger_starts q l (holds.begun q l ne)
 
     pub rests_where_finished : (e : Event) → Enabled n c e → ⊥
     rests_where_finished (take leading ch) en = no_leader_runs (n.to ch) (shape.to ch en.1.there) en.0
     rests_where_finished (take lagging ch) en = ⊎_elim
-        (λ (i : (c.lags.phase (n.to ch) ≡ idle) × MayStart n lagging c (n.to ch)).
+        (λ (i : (c.laggers.phase (n.to ch) ≡ idle) × MayStart n lagging c (n.to ch)).
         no_lagger_starts (n.to ch) (shape.to ch en.1.there) i.1)
-        (λ (t : (c.lags.phase (n.to ch) ≡ taking) × (c.lags.taken ch ≡ false)).
-        each_lagger_idle (n.to ch) (shape.to ch en.1.there) (taking_not_idle (c.lags.phase (n.to ch)) t.0)) en.1.ready
+        (λ (t : (c.laggers.phase (n.to ch) ≡ taking) × (c.laggers.taken ch ≡ false)).
+        each_lagger_idle (n.to ch) (shape.to ch en.1.there) (taking_not_idle (c.laggers.phase (n.to ch)) t.0))
+        en.1.ready
     rests_where_finished (evaluate leading p) en = no_leader_runs p en.1.there en.0
     rests_where_finished (evaluate lagging q) en = ⊎_elim
-        (λ (t : (c.lags.phase q ≡ taking) × HasTakenAll n c.lags q).
-        each_lagger_idle q en.1.there (taking_not_idle (c.lags.phase q) t.0))
-        (λ (i : (c.lags.phase q ≡ idle) × HasNoInput n q × MayStart n lagging c q).
+        (λ (t : (c.laggers.phase q ≡ taking) × HasTakenAll n c.laggers q).
+        each_lagger_idle q en.1.there (taking_not_idle (c.laggers.phase q) t.0))
+        (λ (i : (c.laggers.phase q ≡ idle) × HasNoInput n q × MayStart n lagging c q).
         no_lagger_starts q en.1.there i.2) en.1.ready
     rests_where_finished (give leading ch) en = no_leader_runs (n.from ch) (shape.from ch en.2.there) en.0
     rests_where_finished (give lagging ch) en =
         each_lagger_idle (n.from ch) (shape.from ch en.2.there)
-        (evaluated_not_idle (c.lags.phase (n.from ch)) en.2.evaluated)
+        (evaluated_not_idle (c.laggers.phase (n.from ch)) en.2.evaluated)
     rests_where_finished (raise p) en = no_leader_runs p en.2.there en.0
     rests_where_finished (halt p) en = true≢false (sym (done.leaders p en.0) ∙ en.1.going)
     rests_where_finished (fire p) en = no_leader_runs p en.0 en.1
     rests_where_finished (see q p) en = en.2
         ((holds.posts.sight q p en.0 en.1).last ((done.laggers q en.0).halts p en.1))
     rests_where_finished (lag_raise q) en = each_lagger_idle q en.there
-        (evaluated_not_idle (c.lags.phase q) en.evaluated)
+        (evaluated_not_idle (c.laggers.phase q) en.evaluated)
     rests_where_finished (see_fire p) en = no_leader_runs p en.0 en.1

@@ -1,8 +1,8 @@
 -- Families by number: one place changed, sums, and the least of the places that pass a test.
 use Rattle.std.proofs.Common.{◌≡◌, ◌≢◌, ◌⊎◌, ℕ, zero, suc, ◌+◌, ◌*◌, ◌<◌, ◌≤◌, ◌==◌, Bool, true, false, true≢false}
 use Rattle.std.proofs.Common.{if◌then◌else◌, refl, sym, ap, ◌∙◌, subst, inl, inr, ⊎_elim, arith, eq-eqb}
-use Rattle.std.proofs.lemmas.Bool.{ne_eqb, cases_lt, cases_eq}
-use Rattle.token_net.specs.Families.{total, put}
+use Rattle.std.proofs.lemmas.Bool.{ne_eqb, lt-ltb, le-ltb, cases_lt, cases_eq}
+use Rattle.token_net.specs.Families.{total, put, put_below}
 
 -- what holds of both answers holds of the choice
 pub choose : {A : Type 0} (P : A → Type 0) (a b : ℕ) (x y : A) → (a ≡ b → P x) → (a ≢ b → P y)
@@ -32,6 +32,21 @@ pub put_keeps : {A B : Type 0} (g : A → B) (k : ℕ) (v : A) (f : ℕ → A) (
     → g (put k v f j) ≡ g (f j)
 put_keeps g k v f j same = put_cases (λ a. g a ≡ g (f j)) k v f j (λ e. same ∙ ap (λ (x : ℕ). g (f x)) (sym e)) (λ _.
     refl)
+
+-- ---- the places below a number changed
+
+pub put_below_cases : {A : Type 0} (P : A → Type 0) (n : ℕ) (g f : ℕ → A) (j : ℕ) → (j < n → P (g j))
+    → (n ≤ j → P (f j)) → P (put_below n g f j)
+put_below_cases P n g f j a b = ⊎_elim (λ (l : j < n). rw (lt-ltb j n l) (a l)) (λ (m : n ≤ j). rw (le-ltb j n m) (b m))
+    (cases_lt j n)
+
+pub put_below_here : {A : Type 0} (n : ℕ) (g f : ℕ → A) (j : ℕ) → j < n → put_below n g f j ≡ g j
+put_below_here n g f j l = rw (lt-ltb j n l) refl
+
+-- what g has as the old one had it, each place has
+pub put_below_keeps : {A B : Type 0} (h : A → B) (n : ℕ) (g f : ℕ → A) (j : ℕ) → h (g j) ≡ h (f j)
+    → h (put_below n g f j) ≡ h (f j)
+put_below_keeps h n g f j same = put_below_cases (λ a. h a ≡ h (f j)) n g f j (λ _. same) (λ _. refl)
 
 -- ---- the first and the least
 

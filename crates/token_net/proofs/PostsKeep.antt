@@ -1,16 +1,18 @@
 -- The six steps and the extension keep what holds of the posts; the posts' part of the end.
-use Rattle.std.proofs.Common.{◌≡◌, ◌≢◌, ◌⊎◌, ℕ, ◌+◌, ◌-◌, ◌<◌, ◌≤◌, min, true, false, true≢false, List, length}
+use Rattle.std.proofs.Common.{◌≡◌, ◌≢◌, ◌⊎◌, ℕ, ◌+◌, ◌-◌, ◌<◌, ◌≤◌, min, true, false, true≢false, List, length, map}
+use Rattle.std.specs.List.{range_with_len}
 use Rattle.std.proofs.Common.{set, get_or, replicate, refl, sym, ap, ◌∙◌, subst, inl, inr, ⊎_elim, arith}
 use Rattle.std.proofs.lemmas.Bool.{cases_lt, cases_eq}
 use Rattle.std.proofs.lemmas.List.{length-set, get_or-set_same, get_or-set_other, length-replicate, get_or-replicate}
 use Rattle.std.proofs.lemmas.List.FromFn.{length-map-range_with_len, get_or-map-range_with_len}
 use Rattle.token_net.specs.Families.{put}
-use Rattle.token_net.specs.Posts.{with_sight, MayHalt, HasSeenFar}
+use Rattle.token_net.specs.Posts.{with_sight, MayRaise, MayHalt, MayReport, HasSeenFar}
 use Rattle.token_net.specs.Posts.{Sight, Leader, Lagger, Posts, none_yet, present, going_on, sight, after_raise}
 use Rattle.token_net.specs.Posts.{after_halt}
 use Rattle.token_net.specs.Posts.{after_fire, after_see_fire, after_see, after_lag_raise, first_posts, after_extension}
 use Rattle.token_net.specs.Posts.{Course, IsFire, LeaderHolds, SightHolds, PostsHold}
-use Rattle.token_net.proofs.Places.{put_cases, put_same, put_other}
+use Rattle.token_net.specs.Posts.{with_rows}
+use Rattle.token_net.proofs.Places.{put_cases, put_same, put_other, put_below_cases, put_below_here, put_below_keeps}
 
 -- what is read of a sight that was never written
 abbrev pub unseen : Sight
@@ -39,7 +41,7 @@ module _ (n : Course) where
         subst (LeaderHolds n f y) (sym s) record {
           within = m.within;
           clear = m.clear;
-          reports = λ rep. let r = m.reports rep in let w = r.1 in (r.0, omega (arith, w, lower));
+          reports = λ rep. let r = m.reports rep in let w = r.2 in (r.0, r.1, omega (arith, w, lower));
           stopped = λ h b. ⊎_elim (λ (rep : (c.leader y).reported ≡ true). inl rep)
               (λ (w : c.fire < (c.leader y).at). inr (omega (arith, w, lower))) (m.stopped h b);
           saw = m.saw;
@@ -83,18 +85,19 @@ module _ (n : Course) where
 
   -- ---- the steps of a leader
 
-  pub raises : (c : Posts) (p : ℕ) → PostsHold n c → p < n.parts → (c.leader p).halted ≡ false
-      → (c.leader p).at < n.rows
-      → n.fired p (c.leader p).at ≡ false → PostsHold n (after_raise p c)
-  raises c p old l going small calm =
+  pub raises : (c : Posts) (p : ℕ) → PostsHold n c → p < n.parts → MayRaise n p (c.leader p)
+      → PostsHold n (after_raise p c)
+  raises c p old l may =
       let m = old.leader p l in
+      let going : (c.leader p).halted ≡ false = may.runs.going in
       leader_step c p (record (c.leader p) { at = (c.leader p).at + 1 }) c.fire old l (omega arith) old.fire
       record {
-        within = omega (arith, small);
+        within = (let small = may.below in omega (arith, small));
         clear = λ t b. ⊎_elim (λ (w : t < (c.leader p).at). m.clear t w)
-            (λ (g : (c.leader p).at ≤ t). let s : t ≡ (c.leader p).at = omega (arith, b, g) in ap (n.fired p) s ∙ calm)
+            (λ (g : (c.leader p).at ≤ t).
+            let s : t ≡ (c.leader p).at = omega (arith, b, g) in ap (n.fired p) s ∙ may.quiet)
             (cases_lt t (c.leader p).at);
-        reports = λ rep. absurd (true≢false (sym (m.reports rep).0 ∙ calm));
+        reports = λ rep. absurd (true≢false (sym (m.reports rep).1 ∙ may.quiet));
         stopped = λ h. absurd (true≢false (sym h ∙ going));
         saw = m.saw;
         later = m.later;
@@ -121,10 +124,9 @@ module _ (n : Course) where
       (omega arith)
       (λ s o. unhalted (c.leader p) (record (c.leader p) { halted = true }) s may.going (omega arith) o)
 
-  pub reports : (c : Posts) (p : ℕ) → PostsHold n c → p < n.parts → (c.leader p).at < n.rows
-      → n.fired p (c.leader p).at ≡ true
+  pub reports : (c : Posts) (p : ℕ) → PostsHold n c → p < n.parts → MayReport n p (c.leader p)
       → PostsHold n (after_fire p c)
-  reports c p old l small fires =
+  reports c p old l may =
       let m = old.leader p l in
       leader_step c p (record (c.leader p) { reported = true }) (min c.fire (c.leader p).at) old l (omega arith)
       (⊎_elim
@@ -132,12 +134,12 @@ module _ (n : Course) where
       let e : c.fire ≡ min c.fire (c.leader p).at = omega (arith, g) in subst (IsFire n) e old.fire)
       (λ (g : (c.leader p).at ≤ c.fire).
       let e : (c.leader p).at ≡ min c.fire (c.leader p).at = omega (arith, g) in
-      subst (IsFire n) e (inr (small, (p, l, fires))))
+      subst (IsFire n) e (inr (may.below, (p, l, may.fires))))
       (cases_lt c.fire (c.leader p).at))
       record {
         within = m.within;
         clear = m.clear;
-        reports = λ _. (fires, omega arith);
+        reports = λ _. (may.below, may.fires, omega arith);
         stopped = λ _ _. inl refl;
         saw = m.saw;
         later = (let o = m.later in omega (arith, o));
@@ -249,37 +251,67 @@ module _ (n : Course) where
 
 -- ---- more rows
 
-abbrev pub more_rows : ℕ → Course → Course
-more_rows k n = record n { rows = n.rows + k }
-
 -- what is seen of each leader after an extension
-pub extended_sight : (parts : ℕ) (c : Posts) (q p : ℕ) → p < parts
+pub extended_sight : (parts : ℕ) (c : Posts) (q p : ℕ) → q < parts → p < parts
     → sight ((after_extension parts c).lagger q) p ≡ going_on (c.leader p)
-extended_sight parts c q p l =
-    get_or-map-range_with_len (λ (x : ℕ). going_on (c.leader x)) 0 parts p p unseen l (omega arith)
+extended_sight parts c q p ql pl =
+    ap (λ (y : Lagger). sight y p)
+    (put_below_here parts
+    (λ x. record (c.lagger x) { sights = map (λ y. going_on (c.leader y)) (range_with_len 0 parts) }) c.lagger q ql)
+    ∙ get_or-map-range_with_len (λ (x : ℕ). going_on (c.leader x)) 0 parts p p unseen pl (omega arith)
 
-more_fire : (n : Course) (k f : ℕ) → IsFire n f → IsFire (more_rows k n) f
+-- positions and reports stay
+pub extended_leader_at : (parts : ℕ) (c : Posts) (p : ℕ) → ((after_extension parts c).leader p).at ≡ (c.leader p).at
+extended_leader_at parts c p = put_below_keeps (λ (x : Leader). x.at) parts
+    (λ y. record (c.leader y) { halted = false }) c.leader p refl
+
+pub extended_reported : (parts : ℕ) (c : Posts) (p : ℕ)
+    → ((after_extension parts c).leader p).reported ≡ (c.leader p).reported
+extended_reported parts c p = put_below_keeps (λ (x : Leader). x.reported) parts
+    (λ y. record (c.leader y) { halted = false }) c.leader p refl
+
+pub extended_lagger_at : (parts : ℕ) (c : Posts) (q : ℕ) → ((after_extension parts c).lagger q).at ≡ (c.lagger q).at
+extended_lagger_at parts c q = put_below_keeps (λ (y : Lagger). y.at) parts
+    (λ x. record (c.lagger x) { sights = map (λ y. going_on (c.leader y)) (range_with_len 0 parts) }) c.lagger q refl
+
+more_fire : (n : Course) (k f : ℕ) → IsFire n f → IsFire (with_rows n k) f
 more_fire n k f (inl e) = inl e
 more_fire n k f (inr h) = inr (let a = h.0 in omega (arith, a), h.1)
 
 pub posts_extend : (n : Course) (c : Posts) (k : ℕ) → PostsHold n c
-    → PostsHold (more_rows k n) (after_extension n.parts c)
-posts_extend n c k old = record {
-  fire = more_fire n k c.fire old.fire;
-  leader = λ p l. let m = old.leader p l in record {
-    within = (let a = m.within in omega (arith, a));
-    clear = m.clear;
-    reports = m.reports;
-    stopped = λ halt. absurd (true≢false (sym halt));
-    saw = more_fire n k (c.leader p).seen m.saw;
-    later = m.later;
-  };
-  sight = λ q p ql pl.
-      subst (SightHolds (more_rows k n) (record (c.leader p) { halted = false }))
-      (sym (extended_sight n.parts c q p pl)) record {
-        no_further = omega arith;
-        last = λ halt. absurd (true≢false (sym halt));
-      };
-  lag = old.lag;
-  sized = λ q ql. length-map-range_with_len (λ (x : ℕ). going_on (c.leader x)) 0 n.parts;
-}
+    → PostsHold (with_rows n k) (after_extension n.parts c)
+posts_extend n c k old =
+    let going : ℕ → Leader = λ p. record (c.leader p) { halted = false } in
+    let saw : ℕ → Lagger = λ q.
+    record (c.lagger q) { sights = map (λ p. going_on (c.leader p)) (range_with_len 0 n.parts) } in
+    record {
+      fire = more_fire n k c.fire old.fire;
+      leader = λ p l.
+          let m = old.leader p l in
+          subst (LeaderHolds (with_rows n k) c.fire p) (sym (put_below_here n.parts going c.leader p l)) record {
+            within = (let a = m.within in omega (arith, a));
+            clear = m.clear;
+            reports = λ rep. let a = m.reports rep in let b = a.0 in (omega (arith, b), a.1, a.2);
+            stopped = λ halt. absurd (true≢false (sym halt));
+            saw = more_fire n k (c.leader p).seen m.saw;
+            later = m.later;
+          };
+      sight = λ q p ql pl.
+          subst (λ (x : Leader). SightHolds (with_rows n k) x (sight ((after_extension n.parts c).lagger q) p))
+          (sym (put_below_here n.parts going c.leader p pl))
+          (subst (SightHolds (with_rows n k) (going p)) (sym (extended_sight n.parts c q p ql pl)) record {
+            no_further = omega arith;
+            last = λ halt. absurd (true≢false (sym halt));
+          });
+      lag = λ q p ql pl.
+          put_below_cases
+          (λ (y : Lagger). (y.at ≡ 0) ⊎ (y.at + n.lag ≤ ((after_extension n.parts c).leader p).at)) n.parts saw
+          c.lagger q
+          (λ _. put_below_cases (λ (x : Leader). ((c.lagger q).at ≡ 0) ⊎ ((c.lagger q).at + n.lag ≤ x.at)) n.parts going
+          c.leader p
+          (λ _. old.lag q p ql pl) (λ _. old.lag q p ql pl))
+          (λ b. absurd (omega (arith, b, ql)));
+      sized = λ q ql.
+          ap (λ (y : Lagger). length y.sights) (put_below_here n.parts saw c.lagger q ql)
+          ∙ length-map-range_with_len (λ (x : ℕ). going_on (c.leader x)) 0 n.parts;
+    }

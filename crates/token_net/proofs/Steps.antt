@@ -16,7 +16,7 @@ use Rattle.token_net.specs.Extension.{Step, event, extension, extensions, raises
 use Rattle.token_net.specs.Extension.{after_step, Leads, piece}
 use Rattle.token_net.specs.Laws.{for_rows, for_none, IsCut, Laws}
 use Rattle.token_net.proofs.Places.{put_same, put_other, put_keeps}
-use Rattle.token_net.proofs.PostsKeep.{within_lag}
+use Rattle.token_net.proofs.PostsKeep.{within_lag, extended_lagger_at}
 use Rattle.token_net.proofs.NetworkKeeps.{keeps_event, keeps_extension, start_holds}
 use Rattle.token_net.proofs.NeverStuck.{true_or_false, goes_or_is_finished, rests_where_finished}
 use Rattle.token_net.proofs.Falls.{event_falls}
@@ -105,17 +105,17 @@ module _ {S V : Type 0} (n : Shape S V) (r : Run S V) (shape : IsShape n) where
   lagger_after_step : (c : Config S V) (s : Step) (q : ℕ)
       → ((after_step n c s).posts.lagger q).at ≡ (c.posts.lagger q).at + one_if (raises q s)
   lagger_after_step c (event e) q = lagger_after c e q
-  lagger_after_step c (extension k) q = omega arith
+  lagger_after_step c (extension k) q = let e = extended_lagger_at n.parts c.posts q in omega (arith, e)
 
   -- a piece is the run's state at the position that the lagger had then
   piece_is : (steps : List Step) (c d : Config S V) (q k : ℕ) → Holds n r c → Leads n steps c d → IsRun n d.rows r
       → q < n.parts
       → (c.posts.lagger q).at + k ≤ (d.posts.lagger q).at → piece n c steps q k ≡ r.part q ((c.posts.lagger q).at + k)
-  piece_is [] c d q zero old e is l b = (old.lags.part q l).own ∙ ap (r.part q) (omega arith)
+  piece_is [] c d q zero old e is l b = (old.laggers.part q l).own ∙ ap (r.part q) (omega arith)
   piece_is [] c d q (suc k) old e is l b = absurd
       (let s : (c.posts.lagger q).at ≡ (d.posts.lagger q).at = ap (λ (x : Config S V). (x.posts.lagger q).at) e in
       omega (arith, b, s))
-  piece_is (s ∷ steps) c d q zero old e is l b = (old.lags.part q l).own ∙ ap (r.part q) (omega arith)
+  piece_is (s ∷ steps) c d q zero old e is l b = (old.laggers.part q l).own ∙ ap (r.part q) (omega arith)
   piece_is (s ∷ steps) c d q (suc k) old e is l b =
       let next : Config S V = after_step n c s in
       let new = keeps_step c s (fewer_rows c.rows d.rows (rows_grow (s ∷ steps) c d e) is) old e.0 in
@@ -182,7 +182,7 @@ laws n = record {
   rests = λ r c e shape old done en. rests_where_finished n r shape c old done e en;
   falls = λ r c e shape old en. event_falls n r shape c e old en;
   most = λ r rows steps d shape l is few. most_steps n r shape rows steps d l is few;
-  end = λ r c shape few old done. posts_end (course n r c) c.posts shape.some few old.posts done;
+  end = λ r c shape few old done. posts_end (course n r c) c.posts shape.some few old done;
   extends = λ r c k shape few old may. record {
     holds = keeps_extension n r shape c k old;
     more = left_extends n r shape c few old may k;

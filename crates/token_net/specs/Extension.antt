@@ -1,4 +1,5 @@
--- More rows after an end without a failure, and lists of steps, each an event or an extension. This project's own.
+-- More rows after an end without a failure, and lists of steps, each an event or an extension. The rows of all cycles
+-- stand in what a partition does in a cycle, so an extension only raises the number of rows. This project's own.
 use Rattle.std.specs.Prelude.{◌≡◌, ℕ, zero, suc, ◌+◌, ◌==◌, Bool, false, if◌then◌else◌, List, [], ◌∷◌}
 use Rattle.token_net.specs.Shape.{Shape}
 use Rattle.token_net.specs.Posts.{none_yet, after_extension}
@@ -16,7 +17,7 @@ extensions [] = 0
 extensions (event e ∷ steps) = extensions steps
 extensions (extension k ∷ steps) = suc (extensions steps)
 
--- whether the lagger q raises its position in a step
+-- whether the lagger q raises its position in an event, and in a step
 abbrev pub raises_event : ℕ → Event → Bool
 raises_event q (lag_raise x) = x == q
 raises_event q _ = false
@@ -51,8 +52,8 @@ module _ {S V : Type 0} (n : Shape S V) where
 
   -- the own state of the lagger q after its k-th raise in a list of steps from c, or at c for k = 0
   abbrev pub piece : Config S V → List Step → ℕ → ℕ → S
-  piece c steps q zero = c.lags.own q
-  piece c [] q (suc k) = c.lags.own q
+  piece c steps q zero = c.laggers.own q
+  piece c [] q (suc k) = c.laggers.own q
   piece c (s ∷ steps) q (suc k) =
       if raises q s then piece (after_step c s) steps q k
       else piece (after_step c s) steps q (suc k)

@@ -1,16 +1,41 @@
--- The laws of the network: it is always a consistent cut of the design's run, never stuck, and ends at the first
--- failure. This project's own.
-use Rattle.std.specs.Prelude.{◌≡◌, ℕ, ◌+◌, ◌-◌, ◌*◌, ◌<◌, ◌≤◌, List, length, ◌⊎◌}
+-- The laws: of posts alone, that each step keeps what holds of them and that they end at the first failure; of the
+-- network, that it is always a consistent cut of the design's run, never stuck, and ends there too. This project's own.
+use Rattle.std.specs.Prelude.{◌≡◌, ℕ, ◌+◌, ◌-◌, ◌*◌, ◌<◌, ◌≤◌, false, List, length, ◌⊎◌}
 use Rattle.token_net.specs.Shape.{Shape, IsShape, Run, IsRun}
-use Rattle.token_net.specs.Posts.{most_rows}
+use Rattle.token_net.specs.Posts.{Posts, most_rows, Course, MayRaise, MayHalt, MayReport, HasSeenFar, after_raise}
+use Rattle.token_net.specs.Posts.{after_halt, after_fire, after_see_fire, after_see, after_lag_raise, first_posts}
+use Rattle.token_net.specs.Posts.{after_extension, with_rows, PostsHold}
 use Rattle.token_net.specs.Network.{Config, Event, Enabled, after, start}
 use Rattle.token_net.specs.Holds.{course, Holds}
 use Rattle.token_net.specs.Left.{left}
-use Rattle.token_net.specs.End.{Finished, IsEnd}
+use Rattle.token_net.specs.End.{AllDone, Finished, IsEnd}
 use Rattle.token_net.specs.Extension.{Step, extensions, MayExtend, extended, Leads, piece}
 
+module _ (n : Course) where
+  -- what is promised of posts alone, for every run; p names a leader and q a lagger
+  pub record PostsLaws : Type 0 where
+    -- what holds of posts holds at a start with leaders at a, where no assertion fires below a, and laggers at 0 or at
+    -- most the lag before them
+    pub begins : (a b : ℕ) → a ≤ n.rows → ((p t : ℕ) → p < n.parts → t < a → n.fired p t ≡ false)
+        → (b ≡ 0) ⊎ (b + n.lag ≤ a) → PostsHold n (first_posts n.parts a b)
+    -- each of the six steps keeps it, where the post allows the step
+    pub raise : (c : Posts) (p : ℕ) → PostsHold n c → p < n.parts → MayRaise n p (c.leader p)
+        → PostsHold n (after_raise p c)
+    pub halt : (c : Posts) (p : ℕ) → PostsHold n c → p < n.parts → MayHalt n.rows (c.leader p)
+        → PostsHold n (after_halt p c)
+    pub report : (c : Posts) (p : ℕ) → PostsHold n c → p < n.parts → MayReport n p (c.leader p)
+        → PostsHold n (after_fire p c)
+    pub see_fire : (c : Posts) (p : ℕ) → PostsHold n c → p < n.parts → PostsHold n (after_see_fire p c)
+    pub see : (c : Posts) (q p : ℕ) → PostsHold n c → q < n.parts → p < n.parts → PostsHold n (after_see q p c)
+    pub lag_raise : (c : Posts) (q : ℕ) → PostsHold n c → q < n.parts → HasSeenFar n.parts n.lag (c.lagger q)
+        → PostsHold n (after_lag_raise q c)
+    -- an extension keeps it, for the longer run
+    pub extends : (c : Posts) (k : ℕ) → PostsHold n c → PostsHold (with_rows n k) (after_extension n.parts c)
+    -- where every leader is halted and every lagger done, they stand at the first failure or the end of the rows
+    pub end : (c : Posts) → 1 ≤ n.parts → n.rows ≤ most_rows → PostsHold n c → AllDone n.parts n.lag c → IsEnd n c
+
 module _ {S V : Type 0} (n : Shape S V) where
-  -- what is left at the start for each row, and for none
+  -- what so many rows add to what is left, and what is left without rows
   abbrev pub for_rows : ℕ → ℕ
   for_rows rows = 5 * n.parts * n.parts * rows
 
@@ -53,9 +78,9 @@ module _ {S V : Type 0} (n : Shape S V) where
     pub most : (r : Run S V) (rows : ℕ) (steps : List Step) (d : Config S V) → IsShape n
         → Leads n steps (start n r rows) d → IsRun n d.rows r → d.rows ≤ most_rows
         → length steps ≤ for_rows d.rows + (extensions steps + 1) * for_none + extensions steps
-    -- a finished network is at the first failure or the end of the rows
-    pub end : (r : Run S V) (c : Config S V) → IsShape n → c.rows ≤ most_rows → Holds n r c → Finished n c
-        → IsEnd (course n r c) c.posts
+    -- a finished network is at the first failure or the end of the rows, as its posts alone tell
+    pub end : (r : Run S V) (c : Config S V) → IsShape n → c.rows ≤ most_rows → PostsHold (course n r c) c.posts
+        → Finished n c → IsEnd (course n r c) c.posts
     -- an extension keeps what holds, and raises what is left by so much
     pub extends : (r : Run S V) (c : Config S V) (k : ℕ) → IsShape n → c.rows ≤ most_rows → Holds n r c
         → MayExtend n c → IsExtended r c k

@@ -1,6 +1,6 @@
 pub mod Families
 pub mod Shape
-pub mod Half
+pub mod SideState
 pub mod Posts
 pub mod Network
 pub mod Holds

@@ -1,9 +1,10 @@
--- What leaders and laggers let each other know: positions, halts, the first fire, and what was seen of them. Posts
--- stand apart from states and tokens, since threads share them. This project's own.
+-- What leaders and laggers let each other know: positions, halts, the first fire, and what was seen of them; what a
+-- post allows, and the six steps. Posts stand apart from states and tokens, since threads share them. This project's
+-- own.
 use Rattle.std.specs.Prelude.{◌≡◌, ℕ, ◌+◌, ◌<◌, ◌≤◌, Bool, true, false, List, map, length, replicate, slice_index_or}
 use Rattle.std.specs.Prelude.{slice_set, ◌⊎◌, min}
 use Rattle.std.specs.List.{range_with_len}
-use Rattle.token_net.specs.Families.{put}
+use Rattle.token_net.specs.Families.{put, put_below}
 
 -- a leader's position and halt, as a lagger has seen them
 pub record Sight : Type 0 where
@@ -11,7 +12,7 @@ pub record Sight : Type 0 where
   pub halted : Bool
 
 -- a leader's post: its position, whether it has halted, whether it has reported that an assertion of its own fires,
--- and the fire word as it has seen it
+-- and the fire word as it has seen it, a cycle or none yet
 pub record Leader : Type 0 where
   pub at : ℕ
   pub halted : Bool
@@ -23,7 +24,7 @@ pub record Lagger : Type 0 where
   pub at : ℕ
   pub sights : List Sight
 
--- all posts, and the fire word: the least cycle that a leader has reported
+-- all posts, and the fire word: the least cycle that a leader has reported, or none yet
 pub record Posts : Type 0 where
   pub leader : ℕ → Leader
   pub lagger : ℕ → Lagger
@@ -53,6 +54,21 @@ sight y p = slice_index_or y.sights p (record { at = 0; halted = false })
 abbrev pub with_sight : ℕ → Sight → Lagger → Lagger
 with_sight p s y = record y { sights = slice_set y.sights p s }
 
+-- ---- a run, as posts know it
+
+-- what the rules of posts ask of a run: how many leaders and laggers there are, the number of rows, the lag, and
+-- whether an assertion of the leader p's partition fires in the cycle t, as `fired p t`. It is asked at cycles below
+-- the number of rows alone; where a run begins at a later cycle than 0, no assertion before that cycle counts as fired
+pub record Course : Type 0 where
+  pub parts : ℕ
+  pub rows : ℕ
+  pub lag : ℕ
+  pub fired : ℕ → ℕ → Bool
+
+-- the same run with k rows more
+abbrev pub with_rows : Course → ℕ → Course
+with_rows n k = record n { rows = n.rows + k }
+
 -- ---- what a post allows
 
 -- a leader runs where it isn't halted and hasn't seen a fire at a cycle below its position
@@ -60,13 +76,30 @@ pub record LeaderRuns (x : Leader) : Type 0 where
   pub going : x.halted ≡ false
   pub clear : x.at ≤ x.seen
 
+module _ (n : Course) where
+  -- the leader p may raise its position where it runs, the position is below the number of rows, and no assertion of
+  -- its own fires there
+  pub record MayRaise (p : ℕ) (x : Leader) : Type 0 where
+    pub runs : LeaderRuns x
+    pub below : x.at < n.rows
+    pub quiet : n.fired p x.at ≡ false
+
+  -- the leader p may report its position where it runs, hasn't reported, the position is below the number of rows,
+  -- and an assertion of its own fires there
+  pub record MayReport (p : ℕ) (x : Leader) : Type 0 where
+    pub runs : LeaderRuns x
+    pub new : x.reported ≡ false
+    pub below : x.at < n.rows
+    pub fires : n.fired p x.at ≡ true
+
 -- a leader may halt where it isn't halted, and stands at the number of rows, has reported its position, or has seen a
 -- fire at a cycle below its position
 pub record MayHalt (rows : ℕ) (x : Leader) : Type 0 where
   pub going : x.halted ≡ false
   pub why : (x.at ≡ rows) ⊎ (x.reported ≡ true) ⊎ (x.seen < x.at)
 
--- a lagger has seen each leader at its own position + 1 + lag or further
+-- a lagger may start its cycle, and raise its position, where it has seen each leader at its own position + 1 + lag or
+-- further
 abbrev pub HasSeenFar : ℕ → ℕ → Lagger → Type 0
 HasSeenFar parts lag y = (p : ℕ) → p < parts → y.at + 1 + lag ≤ (sight y p).at
 
@@ -87,11 +120,11 @@ after_fire p c = record c {
   leader = put p (record (c.leader p) { reported = true }) c.leader;
 }
 
--- the leader p has seen the fire word as it is
+-- the leader p has seen the fire word as it is; its post allows this at any time
 abbrev pub after_see_fire : ℕ → Posts → Posts
 after_see_fire p c = record c { leader = put p (record (c.leader p) { seen = c.fire }) c.leader }
 
--- the lagger q has seen the leader p as it is
+-- the lagger q has seen the leader p as it is; its post allows this at any time
 abbrev pub after_see : ℕ → ℕ → Posts → Posts
 after_see q p c = record c { lagger = put q (with_sight p (present (c.leader p)) (c.lagger q)) c.lagger }
 
@@ -101,7 +134,8 @@ after_lag_raise q c = record c { lagger = put q (record (c.lagger q) { at = (c.l
 
 -- ---- the start, and going on with more rows
 
--- all leaders at one position and all laggers at another; nothing was reported, and each lagger has seen each leader
+-- all leaders at the position a and all laggers at b; none is halted, nothing was reported, and each lagger has seen
+-- each leader at a, not halted
 abbrev pub first_posts : ℕ → ℕ → ℕ → Posts
 first_posts parts a b = record {
   leader = λ p. record { at = a; halted = false; reported = false; seen = none_yet };
@@ -109,22 +143,17 @@ first_posts parts a b = record {
   fire = none_yet;
 }
 
--- no leader is halted, and each lagger has seen each leader's position, not halted
+-- no leader is halted, and each lagger has seen each leader's position, not halted; what has a number that names
+-- nothing stays
 abbrev pub after_extension : ℕ → Posts → Posts
 after_extension parts c = record c {
-  leader = λ p. record (c.leader p) { halted = false };
-  lagger = λ q. record (c.lagger q) { sights = map (λ p. going_on (c.leader p)) (range_with_len 0 parts) };
+  leader = put_below parts (λ p. record (c.leader p) { halted = false }) c.leader;
+  lagger = put_below parts
+      (λ q. record (c.lagger q) { sights = map (λ p. going_on (c.leader p)) (range_with_len 0 parts) })
+      c.lagger;
 }
 
 -- ---- what holds
-
--- what the rules of posts ask of a run: how many leaders and laggers there are, how many rows, the lag, and whether
--- an assertion of a leader's partition fires in a cycle
-pub record Course : Type 0 where
-  pub parts : ℕ
-  pub rows : ℕ
-  pub lag : ℕ
-  pub fired : ℕ → ℕ → Bool
 
 module _ (n : Course) where
   -- none yet, or a cycle of the rows in which some assertion fires
@@ -136,8 +165,9 @@ module _ (n : Course) where
     -- its position is at most the number of rows, and no assertion of its own fires below it
     pub within : x.at ≤ n.rows
     pub clear : (t : ℕ) → t < x.at → n.fired p t ≡ false
-    -- where it has reported, an assertion of its own fires at its position, and the fire word is at most that
-    pub reports : x.reported ≡ true → (n.fired p x.at ≡ true) × (fire ≤ x.at)
+    -- where it has reported, its position is below the number of rows, an assertion of its own fires there, and the
+    -- fire word is at most that
+    pub reports : x.reported ≡ true → (x.at < n.rows) × (n.fired p x.at ≡ true) × (fire ≤ x.at)
     -- where it is halted below the number of rows, it has reported, or the fire word is below its position
     pub stopped : x.halted ≡ true → x.at < n.rows → (x.reported ≡ true) ⊎ (fire < x.at)
     -- what it has seen of the fire word is none yet or a cycle in which some assertion fires, and the word is at most

@@ -1,6 +1,6 @@
 -- What a network is of: partitions, the channels between them, and what one partition does in one cycle. FAME1
 -- decoupling as in Strober in outline: a partition runs a cycle where a token of that cycle has come on each of its
--- input channels. The rules are this project's own.
+-- input channels. Row t is what the design's inputs are in the cycle t. The rules are this project's own.
 use Rattle.std.specs.Prelude.{◌≡◌, ◌≢◌, ℕ, ◌+◌, ◌<◌, ◌≤◌, Bool}
 
 -- a network, where S is the type of a partition's own state, and V that of the values of a token
@@ -15,15 +15,17 @@ pub record Shape (S V : Type 0) : Type 0 where
   pub depth : ℕ
   -- how many cycles the lagging partitions keep from the slowest leading one
   pub lag : ℕ
-  -- what a partition does in a cycle, from its own state and the values that it took from each channel: its next
-  -- state, and whether an assertion of its own fires
+  -- what the partition p does in the cycle t, from its own state and the values that it took from each channel, in the
+  -- order `next p t own copy`: its next state, and whether an assertion of its own fires. The rows of all cycles stand
+  -- in these functions, and those below the number of rows are looked at; so more rows are a larger number
   pub next : ℕ → ℕ → S → (ℕ → V) → S
   pub fires : ℕ → ℕ → S → (ℕ → V) → Bool
-  -- what a channel carries of its giver's state
+  -- what the channel ch carries of its giver's state, as `send ch own`
   pub send : ℕ → S → V
 
--- what a design's own run, which knows no partitions, says of them: a partition's state in a cycle, a channel's token
--- of a cycle, and whether an assertion of a partition fires in a cycle
+-- what a design's own run, which knows no partitions, says of them: the state of the partition p in the cycle t as
+-- `part p t`, the token of the channel ch of the cycle t as `token ch t`, and whether an assertion of p fires in the
+-- cycle t as `fired p t`
 pub record Run (S V : Type 0) : Type 0 where
   pub part : ℕ → ℕ → S
   pub token : ℕ → ℕ → V

@@ -9,19 +9,27 @@
 //! such a network, on one thread or on several. Posts, which threads share, stand apart from states and tokens, so
 //! that their rules and steps serve these crates too.
 //!
-//! `specs/Shape` says what a network is of, `specs/Half` what one side holds and does, `specs/Posts` what leaders and
-//! laggers let each other know, `specs/Network` the events, `specs/Holds` what is true after each of them,
-//! `specs/Left` how many events may still come, `specs/End` the end, `specs/Extension` more rows and lists of steps,
-//! and `specs/Laws` what `network_law` promises.
+//! `specs/Shape` says what a network is of, `specs/SideState` what one side holds and does, `specs/Posts` what leaders
+//! and laggers let each other know and what a post allows, `specs/Network` the events, `specs/Holds` what is true after
+//! each of them, `specs/Left` how many events may still come, `specs/End` the end, `specs/Extension` more rows and
+//! lists of steps, and `specs/Laws` what `posts_law` and `network_law` promise.
 #![tactic(auto)]
 
 ghost use Rattle.token_net.specs.Shape.{Shape};
-ghost use Rattle.token_net.specs.Laws.{Laws};
+ghost use Rattle.token_net.specs.Posts.{Course};
+ghost use Rattle.token_net.specs.Laws.{PostsLaws, Laws};
+
+/// The laws of posts alone, for every run: what holds of them at the start (`begins`) is kept by each of the six steps
+/// where the post allows it (`raise`, `halt`, `report`, `see_fire`, `see`, `lag_raise`) and by more rows (`extends`);
+/// at the end they stand at the first failure (`end`).
+pub fn posts_law()
+    ensures { (n : Course) → PostsLaws n }
+{}
 
 /// The laws of every network, whatever the type `S` of a partition's state and the type `V` of a token's values:
 /// whichever events come in whichever order, states, tokens and reports are those of the design's own run (`begins`,
 /// `keeps`, `cut`), the network is never stuck (`goes`, `rests`), it ends after a known number of events (`falls`,
-/// `most`) at the first failure (`end`), and it can go on with more rows (`extends`).
+/// `most`) at the first failure, as its posts alone tell (`end`), and it can go on with more rows (`extends`).
 pub fn network_law<S, V>()
     ensures { (n : Shape S V) → Laws n }
 {}

@@ -1,16 +1,18 @@
 -- Each of the four moves keeps what holds of a side.
 use Rattle.std.proofs.Common.{◌≡◌, ◌≢◌, ℕ, zero, suc, ◌+◌, ◌<◌, ◌≤◌, ◌==◌, Bool, true, false, true≢false}
-use Rattle.std.proofs.Common.{List, [], ◌∷◌, ◌++◌}
+use Rattle.std.proofs.Common.{List, [], ◌∷◌, ◌++◌, drop}
 use Rattle.std.proofs.Common.{if◌then◌else◌, length, refl, sym, ap, ◌∙◌, subst, inl, inr, ⊎_elim, arith, eq-eqb}
 use Rattle.std.proofs.lemmas.Bool.{ne_eqb, cases_eq}
 use Rattle.std.proofs.lemmas.List.{length-append}
 use Rattle.token_net.specs.Families.{put, one_if}
 use Rattle.token_net.specs.Shape.{Shape, IsShape, Run, IsRun}
-use Rattle.token_net.specs.Half.{Phase, idle, taking, Token, Half, verdict, HasNotEvaluated, HasEvaluated, HasTakenAll}
-use Rattle.token_net.specs.Half.{MayTake, MayEvaluate, MayGive, MayClose}
-use Rattle.token_net.specs.Half.{after_take, after_evaluate, after_give, after_close, first_half, oldest_values}
-use Rattle.token_net.specs.Half.{later, tokens}
-use Rattle.token_net.specs.Half.{PartHolds, ChannelHolds, HalfHolds}
+use Rattle.token_net.specs.SideState.{Phase, idle, taking, Token, SideState, verdict}
+use Rattle.token_net.specs.SideState.{HasNotEvaluated, HasEvaluated, HasTakenAll}
+use Rattle.token_net.specs.SideState.{MayTake, MayEvaluate, MayGive, MayClose}
+use Rattle.token_net.specs.SideState.{after_take, after_evaluate, after_give, after_close, first_side_state}
+use Rattle.token_net.specs.SideState.{oldest_values}
+use Rattle.token_net.specs.SideState.{tokens}
+use Rattle.token_net.specs.SideState.{PartHolds, ChannelHolds, SideHolds}
 use Rattle.token_net.proofs.Places.{put_cases, put_same}
 
 -- ---- phases
@@ -53,7 +55,7 @@ module _ {S V : Type 0} (n : Shape S V) where
   -- ---- what a move rests on, of a side for which all holds
 
   -- a take: the taker hasn't evaluated, hasn't taken from the channel, and has a row
-  pub record Takes (rows : ℕ) (at : ℕ → ℕ) (h : Half S V) (ch : ℕ) : Type 0 where
+  pub record Takes (rows : ℕ) (at : ℕ → ℕ) (h : SideState S V) (ch : ℕ) : Type 0 where
     pub there : ch < n.channels
     pub begun : HasNotEvaluated (h.phase (n.to ch))
     pub new : h.taken ch ≡ false
@@ -61,21 +63,21 @@ module _ {S V : Type 0} (n : Shape S V) where
     pub small : at (n.to ch) < rows
 
   -- an evaluation: the partition hasn't evaluated, has taken all its inputs, and has a row
-  pub record Evaluates (rows : ℕ) (at : ℕ → ℕ) (h : Half S V) (p : ℕ) : Type 0 where
+  pub record Evaluates (rows : ℕ) (at : ℕ → ℕ) (h : SideState S V) (p : ℕ) : Type 0 where
     pub there : p < n.parts
     pub begun : HasNotEvaluated (h.phase p)
     pub all : HasTakenAll n h p
     pub small : at p < rows
 
 module _ {S V : Type 0} (n : Shape S V) (r : Run S V) (rows : ℕ) (at : ℕ → ℕ) where
-  pub takes : (starts : ℕ → Type 0) (h : Half S V) (ch : ℕ) → IsShape n → HalfHolds n r rows at h
+  pub takes : (starts : ℕ → Type 0) (h : SideState S V) (ch : ℕ) → IsShape n → SideHolds n r rows at h
       → (starts (n.to ch) → at (n.to ch) < rows)
       → MayTake n starts h ch → Takes n rows at h ch
   takes starts h ch shape old small may = ⊎_elim
       (λ (i : (h.phase (n.to ch) ≡ idle) × starts (n.to ch)). record {
         there = may.there;
         begun = inl i.0;
-        new = (old.channel ch may.there).idle_took_none i.0;
+        new = (old.channel ch may.there).taker.idle_took_none i.0;
         some = may.some;
         small = small i.1;
       })
@@ -88,7 +90,7 @@ module _ {S V : Type 0} (n : Shape S V) (r : Run S V) (rows : ℕ) (at : ℕ →
       })
       may.ready
 
-  pub evaluates : (starts : ℕ → Type 0) (h : Half S V) (p : ℕ) → HalfHolds n r rows at h → (starts p → at p < rows)
+  pub evaluates : (starts : ℕ → Type 0) (h : SideState S V) (p : ℕ) → SideHolds n r rows at h → (starts p → at p < rows)
       → MayEvaluate n starts h p → Evaluates n rows at h p
   evaluates starts h p old small may = ⊎_elim
       (λ (t : (h.phase p ≡ taking) × HasTakenAll n h p). record {
@@ -108,10 +110,10 @@ module _ {S V : Type 0} (n : Shape S V) (r : Run S V) (rows : ℕ) (at : ℕ →
   -- ---- tokens
 
   front : (ch a : ℕ) (v : V) (l : List (Token V)) → l ≢ [] → l ≡ tokens r ch a (length l)
-      → (length l ≡ suc (length (later l))) × (oldest_values v l ≡ r.token ch a)
-      × (later l ≡ tokens r ch (suc a) (length (later l)))
+      → (length l ≡ suc (length (drop 1 l))) × (oldest_values v l ≡ r.token ch a)
+      × (drop 1 l ≡ tokens r ch (suc a) (length (drop 1 l)))
   front ch a v [] ne k = absurd (ne refl)
-  front ch a v (x ∷ xs) ne k = (refl, ap (oldest_values v) k, ap later k)
+  front ch a v (x ∷ xs) ne k = (refl, ap (oldest_values v) k, ap (λ (y : List (Token V)). drop 1 y) k)
 
   tokens-snoc : (ch a k : ℕ)
       → tokens r ch a k ++ record { cycle = a + k; values = r.token ch (a + k) } ∷ [] ≡ tokens r ch a (suc k)
@@ -124,7 +126,7 @@ module _ {S V : Type 0} (n : Shape S V) (r : Run S V) (rows : ℕ) (at : ℕ →
 
   -- ---- take
 
-  take_before : (h : Half S V) (ch : ℕ) → HasNotEvaluated (h.phase (n.to ch)) → (x : ℕ)
+  take_before : (h : SideState S V) (ch : ℕ) → HasNotEvaluated (h.phase (n.to ch)) → (x : ℕ)
       → SoBefore h.phase (after_take n ch h).phase x
   take_before h ch o x = put_cases
       (λ p. (p ≡ idle → h.phase x ≡ idle) × (HasEvaluated p → HasEvaluated (h.phase x)) × (HasNotEvaluated p
@@ -138,7 +140,7 @@ module _ {S V : Type 0} (n : Shape S V) (r : Run S V) (rows : ℕ) (at : ℕ →
       ))
       (λ _. ((λ i. i), (λ v. v), λ v. v))
 
-  take_part : (h : Half S V) (ch p : ℕ) → Takes n rows at h ch → PartHolds r rows h p (at p)
+  take_part : (h : SideState S V) (ch p : ℕ) → Takes n rows at h ch → PartHolds r rows h p (at p)
       → PartHolds r rows (after_take n ch h) p (at p)
   take_part h ch p may old = record {
     own = old.own;
@@ -151,40 +153,52 @@ module _ {S V : Type 0} (n : Shape S V) (r : Run S V) (rows : ℕ) (at : ℕ →
         (λ _ v. absurd (taking_not v)) (λ _ v. old.right v);
   }
 
-  take_here : (h : Half S V) (ch : ℕ) → Takes n rows at h ch → ChannelHolds n r at h ch
+  take_here : (h : SideState S V) (ch : ℕ) → Takes n rows at h ch → ChannelHolds n r at h ch
       → ChannelHolds n r at (after_take n ch h) ch
   take_here h ch may old =
       let t : (ch == ch) ≡ true = eq-eqb ch ch refl in
-      let f = front ch (at (n.to ch) + one_if (h.taken ch)) (h.copy ch) (h.held ch) may.some old.in_order in
+      let f = front ch (at (n.to ch) + one_if (h.taken ch)) (h.copy ch) (h.held ch) may.some old.queue.in_order in
       let z : one_if (h.taken ch) ≡ 0 = ap one_if may.new in
       let before = take_before h ch may.begun in
       record {
-        count = rw t (omega (arith, old.count, f.0, z));
-        in_order = rw t (f.2 ∙ ap (λ (q : ℕ). tokens r ch q (length (later (h.held ch)))) (omega (arith, z)));
-        room = rw t (omega (arith, old.room, f.0));
-        copied = rw t (λ _. f.1 ∙ ap (r.token ch) (omega (arith, z)));
-        idle_took_none = λ i. absurd (let b : taking ≡ idle = sym (put_same (n.to ch) taking h.phase) ∙ i in cc);
-        evaluated_took_all = rw t (λ _. refl);
-        gave_none_yet = λ o. old.gave_none_yet ((before (n.from ch)).2 o);
+        queue = record {
+          count = rw t (omega (arith, old.queue.count, f.0, z));
+          in_order = rw t (f.2 ∙ ap (λ (q : ℕ). tokens r ch q (length (drop 1 (h.held ch)))) (omega (arith, z)));
+          room = rw t (omega (arith, old.queue.room, f.0));
+        };
+        taker = record {
+          copied = rw t (λ _. f.1 ∙ ap (r.token ch) (omega (arith, z)));
+          idle_took_none = λ i. absurd (let b : taking ≡ idle = sym (put_same (n.to ch) taking h.phase) ∙ i in cc);
+          evaluated_took_all = rw t (λ _. refl);
+        };
+        giver = record {
+          gave_none_yet = λ o. old.giver.gave_none_yet ((before (n.from ch)).2 o);
+        };
       }
 
-  take_there : (h : Half S V) (ch k : ℕ) → Takes n rows at h ch → k ≢ ch → ChannelHolds n r at h k
+  take_there : (h : SideState S V) (ch k : ℕ) → Takes n rows at h ch → k ≢ ch → ChannelHolds n r at h k
       → ChannelHolds n r at (after_take n ch h) k
   take_there h ch k may ne old =
       let f : (k == ch) ≡ false = ne_eqb k ch ne in
       let before = take_before h ch may.begun in
       record {
-        count = rw f old.count;
-        in_order = rw f old.in_order;
-        room = rw f old.room;
-        copied = rw f old.copied;
-        idle_took_none = rw f (λ i. old.idle_took_none ((before (n.to k)).0 i));
-        evaluated_took_all = rw f (λ v. old.evaluated_took_all ((before (n.to k)).1 v));
-        gave_none_yet = λ o. old.gave_none_yet ((before (n.from k)).2 o);
+        queue = record {
+          count = rw f old.queue.count;
+          in_order = rw f old.queue.in_order;
+          room = rw f old.queue.room;
+        };
+        taker = record {
+          copied = rw f old.taker.copied;
+          idle_took_none = rw f (λ i. old.taker.idle_took_none ((before (n.to k)).0 i));
+          evaluated_took_all = rw f (λ v. old.taker.evaluated_took_all ((before (n.to k)).1 v));
+        };
+        giver = record {
+          gave_none_yet = λ o. old.giver.gave_none_yet ((before (n.from k)).2 o);
+        };
       }
 
-  pub take_keeps : (h : Half S V) (ch : ℕ) → Takes n rows at h ch → HalfHolds n r rows at h
-      → HalfHolds n r rows at (after_take n ch h)
+  pub take_keeps : (h : SideState S V) (ch : ℕ) → Takes n rows at h ch → SideHolds n r rows at h
+      → SideHolds n r rows at (after_take n ch h)
   take_keeps h ch may old = record {
     part = λ p l. take_part h ch p may (old.part p l);
     channel = λ k l. ⊎_elim
@@ -196,29 +210,29 @@ module _ {S V : Type 0} (n : Shape S V) (r : Run S V) (rows : ℕ) (at : ℕ →
   -- ---- evaluate
 
   -- the copies are the tokens of the cycle
-  copies : (h : Half S V) (p : ℕ) → Evaluates n rows at h p → HalfHolds n r rows at h → (ch : ℕ) → ch < n.channels
+  copies : (h : SideState S V) (p : ℕ) → Evaluates n rows at h p → SideHolds n r rows at h → (ch : ℕ) → ch < n.channels
       → n.to ch ≡ p
       → h.copy ch ≡ r.token ch (at p)
-  copies h p may old ch l e = (old.channel ch l).copied (may.all ch l e) ∙ ap (λ (q : ℕ). r.token ch (at q)) e
+  copies h p may old ch l e = (old.channel ch l).taker.copied (may.all ch l e) ∙ ap (λ (q : ℕ). r.token ch (at q)) e
 
-  next_right : (h : Half S V) (p : ℕ) → IsRun n rows r → Evaluates n rows at h p → HalfHolds n r rows at h
+  next_right : (h : SideState S V) (p : ℕ) → IsRun n rows r → Evaluates n rows at h p → SideHolds n r rows at h
       → n.next p (at p) (h.own p) h.copy ≡ r.part p (at p + 1)
   next_right h p is may old =
       ap (λ s. n.next p (at p) s h.copy) (old.part p may.there).own
       ∙ is.next p (at p) h.copy may.there may.small (copies h p may old)
 
-  fires_right : (h : Half S V) (p : ℕ) → IsRun n rows r → Evaluates n rows at h p → HalfHolds n r rows at h
+  fires_right : (h : SideState S V) (p : ℕ) → IsRun n rows r → Evaluates n rows at h p → SideHolds n r rows at h
       → n.fires p (at p) (h.own p) h.copy ≡ r.fired p (at p)
   fires_right h p is may old =
       ap (λ s. n.fires p (at p) s h.copy) (old.part p may.there).own
       ∙ is.fires p (at p) h.copy may.there may.small (copies h p may old)
 
-  evaluate_part : (h : Half S V) (p x : ℕ) → IsRun n rows r → Evaluates n rows at h p → HalfHolds n r rows at h
+  evaluate_part : (h : SideState S V) (p x : ℕ) → IsRun n rows r → Evaluates n rows at h p → SideHolds n r rows at h
       → PartHolds r rows h x (at x)
       → PartHolds r rows (after_evaluate n p (at p) h) x (at x)
   evaluate_part h p x is may all old =
       let b : Bool = n.fires p (at p) (h.own p) h.copy in
-      let new : Half S V = after_evaluate n p (at p) h in
+      let new : SideState S V = after_evaluate n p (at p) h in
       record {
         own = old.own;
         within = old.within;
@@ -233,25 +247,31 @@ module _ {S V : Type 0} (n : Shape S V) (r : Run S V) (rows : ℕ) (at : ℕ →
             (λ _ v. old.right v);
       }
 
-  evaluate_channel : (h : Half S V) (p k : ℕ) → Evaluates n rows at h p → k < n.channels → ChannelHolds n r at h k
+  evaluate_channel : (h : SideState S V) (p k : ℕ) → Evaluates n rows at h p → k < n.channels → ChannelHolds n r at h k
       → ChannelHolds n r at (after_evaluate n p (at p) h) k
   evaluate_channel h p k may l old =
       let b : Bool = n.fires p (at p) (h.own p) h.copy in
       record {
-        count = old.count;
-        in_order = old.in_order;
-        room = old.room;
-        copied = old.copied;
-        idle_took_none = put_cases (λ ph. ph ≡ idle → h.taken k ≡ false) p (verdict b) h.phase (n.to k)
-            (λ _ i. absurd (verdict_idle b i)) (λ _ i. old.idle_took_none i);
-        evaluated_took_all = put_cases (λ ph. HasEvaluated ph → h.taken k ≡ true) p (verdict b) h.phase (n.to k)
-            (λ e _. may.all k l e) (λ _ v. old.evaluated_took_all v);
-        gave_none_yet = put_cases (λ ph. HasNotEvaluated ph → h.given k ≡ false) p (verdict b) h.phase (n.from k)
-            (λ _ o. absurd (verdict_begun b o)) (λ _ o. old.gave_none_yet o);
+        queue = record {
+          count = old.queue.count;
+          in_order = old.queue.in_order;
+          room = old.queue.room;
+        };
+        taker = record {
+          copied = old.taker.copied;
+          idle_took_none = put_cases (λ ph. ph ≡ idle → h.taken k ≡ false) p (verdict b) h.phase (n.to k)
+              (λ _ i. absurd (verdict_idle b i)) (λ _ i. old.taker.idle_took_none i);
+          evaluated_took_all = put_cases (λ ph. HasEvaluated ph → h.taken k ≡ true) p (verdict b) h.phase (n.to k)
+              (λ e _. may.all k l e) (λ _ v. old.taker.evaluated_took_all v);
+        };
+        giver = record {
+          gave_none_yet = put_cases (λ ph. HasNotEvaluated ph → h.given k ≡ false) p (verdict b) h.phase (n.from k)
+              (λ _ o. absurd (verdict_begun b o)) (λ _ o. old.giver.gave_none_yet o);
+        };
       }
 
-  pub evaluate_keeps : (h : Half S V) (p : ℕ) → IsRun n rows r → Evaluates n rows at h p → HalfHolds n r rows at h
-      → HalfHolds n r rows at (after_evaluate n p (at p) h)
+  pub evaluate_keeps : (h : SideState S V) (p : ℕ) → IsRun n rows r → Evaluates n rows at h p → SideHolds n r rows at h
+      → SideHolds n r rows at (after_evaluate n p (at p) h)
   evaluate_keeps h p is may old = record {
     part = λ x b. evaluate_part h p x is may old (old.part x b);
     channel = λ k b. evaluate_channel h p k may b (old.channel k b);
@@ -259,7 +279,7 @@ module _ {S V : Type 0} (n : Shape S V) (r : Run S V) (rows : ℕ) (at : ℕ →
 
   -- ---- give
 
-  give_here : (h : Half S V) (ch : ℕ) → IsRun n rows r → MayGive n h ch
+  give_here : (h : SideState S V) (ch : ℕ) → IsRun n rows r → MayGive n h ch
       → PartHolds r rows h (n.from ch) (at (n.from ch)) → ChannelHolds n r at h ch
       → ChannelHolds n r at (after_give n ch (at (n.from ch)) h) ch
   give_here h ch is may giver old =
@@ -271,37 +291,50 @@ module _ {S V : Type 0} (n : Shape S V) (r : Run S V) (rows : ℕ) (at : ℕ →
       let more : length (h.held ch ++ x ∷ []) ≡ suc m = omega (arith, length-append (h.held ch) (x ∷ [])) in
       let below = giver.below (evaluated_not_idle (h.phase (n.from ch)) may.evaluated) in
       let small : at (n.from ch) + 1 ≤ rows = omega (arith, below) in
-      let turn : at (n.from ch) + 1 ≡ a + m = omega (arith, old.count, z) in
+      let turn : at (n.from ch) + 1 ≡ a + m = omega (arith, old.queue.count, z) in
       let sent : n.send ch (h.next (n.from ch)) ≡ r.token ch (at (n.from ch) + 1) =
       ap (n.send ch) (giver.next may.evaluated) ∙ is.send ch (at (n.from ch) + 1) may.there small in
       let same : x ≡ record { cycle = a + m; values = r.token ch (a + m) } =
       (λ i. record { cycle = turn i; values = (sent ∙ ap (r.token ch) turn) i }) in
       record {
-        count = rw t (omega (arith, old.count, more, z));
-        in_order = rw t ((λ i. old.in_order i ++ same i ∷ []) ∙ tokens-snoc ch a m ∙ ap (tokens r ch a) (sym more));
-        room = rw t (omega (arith, may.room, more));
-        copied = old.copied;
-        idle_took_none = old.idle_took_none;
-        evaluated_took_all = old.evaluated_took_all;
-        gave_none_yet = λ o. absurd (not_both_phases (h.phase (n.from ch)) o may.evaluated);
+        queue = record {
+          count = rw t (omega (arith, old.queue.count, more, z));
+          in_order = rw t
+              ((λ i. old.queue.in_order i ++ same i ∷ []) ∙ tokens-snoc ch a m ∙ ap (tokens r ch a) (sym more));
+          room = rw t (omega (arith, may.room, more));
+        };
+        taker = record {
+          copied = old.taker.copied;
+          idle_took_none = old.taker.idle_took_none;
+          evaluated_took_all = old.taker.evaluated_took_all;
+        };
+        giver = record {
+          gave_none_yet = λ o. absurd (not_both_phases (h.phase (n.from ch)) o may.evaluated);
+        };
       }
 
-  give_there : (h : Half S V) (ch k : ℕ) → k ≢ ch → ChannelHolds n r at h k
+  give_there : (h : SideState S V) (ch k : ℕ) → k ≢ ch → ChannelHolds n r at h k
       → ChannelHolds n r at (after_give n ch (at (n.from ch)) h) k
   give_there h ch k ne old =
       let f : (k == ch) ≡ false = ne_eqb k ch ne in
       record {
-        count = rw f old.count;
-        in_order = rw f old.in_order;
-        room = rw f old.room;
-        copied = old.copied;
-        idle_took_none = old.idle_took_none;
-        evaluated_took_all = old.evaluated_took_all;
-        gave_none_yet = rw f old.gave_none_yet;
+        queue = record {
+          count = rw f old.queue.count;
+          in_order = rw f old.queue.in_order;
+          room = rw f old.queue.room;
+        };
+        taker = record {
+          copied = old.taker.copied;
+          idle_took_none = old.taker.idle_took_none;
+          evaluated_took_all = old.taker.evaluated_took_all;
+        };
+        giver = record {
+          gave_none_yet = rw f old.giver.gave_none_yet;
+        };
       }
 
-  pub give_keeps : (h : Half S V) (ch : ℕ) → IsShape n → IsRun n rows r → MayGive n h ch → HalfHolds n r rows at h
-      → HalfHolds n r rows at (after_give n ch (at (n.from ch)) h)
+  pub give_keeps : (h : SideState S V) (ch : ℕ) → IsShape n → IsRun n rows r → MayGive n h ch → SideHolds n r rows at h
+      → SideHolds n r rows at (after_give n ch (at (n.from ch)) h)
   give_keeps h ch shape is may old = record {
     part = λ p l. let o = old.part p l in
         record { own = o.own; within = o.within; below = o.below; next = o.next; right = o.right };
@@ -313,7 +346,8 @@ module _ {S V : Type 0} (n : Shape S V) (r : Run S V) (rows : ℕ) (at : ℕ →
 
   -- ---- close, which raises the position
 
-  close_part : (h : Half S V) (p x : ℕ) → MayClose n h p → PartHolds r rows h p (at p) → PartHolds r rows h x (at x)
+  close_part : (h : SideState S V) (p x : ℕ) → MayClose n h p → PartHolds r rows h p (at p)
+      → PartHolds r rows h x (at x)
       → PartHolds r rows (after_close n p h) x (put p (at p + 1) at x)
   close_part h p x may mine old = ⊎_elim
       (λ (e : x ≡ p). subst (λ (q : ℕ). PartHolds r rows (after_close n p h) q (put p (at p + 1) at q)) (sym e) (
@@ -348,33 +382,40 @@ module _ {S V : Type 0} (n : Shape S V) (r : Run S V) (rows : ℕ) (at : ℕ →
       (λ (ne : x ≢ p). let f : (x == p) ≡ false = ne_eqb x p ne in rw f refl)
       (cases_eq x p)
 
-  close_channel : (h : Half S V) (p k : ℕ) → MayClose n h p → k < n.channels → ChannelHolds n r at h k
+  close_channel : (h : SideState S V) (p k : ℕ) → MayClose n h p → k < n.channels → ChannelHolds n r at h k
       → ChannelHolds n r (put p (at p + 1) at) (after_close n p h) k
   close_channel h p k may l old =
       let took_all : n.to k ≡ p → h.taken k ≡ true =
-      λ e. old.evaluated_took_all (subst (λ (q : ℕ). HasEvaluated (h.phase q)) (sym e) may.evaluated) in
+      λ e. old.taker.evaluated_took_all (subst (λ (q : ℕ). HasEvaluated (h.phase q)) (sym e) may.evaluated) in
       let a = counts_on p (n.to k) (h.taken k) took_all in
       let b = counts_on p (n.from k) (h.given k) (may.all k l) in
       let same_to : (e : n.to k ≡ p) → (n.to k == p) ≡ true = λ e. eq-eqb (n.to k) p e in
       let other_to : (ne : n.to k ≢ p) → (n.to k == p) ≡ false = λ ne. ne_eqb (n.to k) p ne in
       record {
-        count = omega (arith, old.count, a, b);
-        in_order = old.in_order ∙ ap (λ (q : ℕ). tokens r k q (length (h.held k))) (sym a);
-        room = old.room;
-        copied = ⊎_elim (λ (e : n.to k ≡ p). rw (same_to e) (λ (c : false ≡ true). absurd (true≢false (sym c))))
-            (λ (ne : n.to k ≢ p). rw (other_to ne) old.copied) (cases_eq (n.to k) p);
-        idle_took_none = ⊎_elim (λ (e : n.to k ≡ p). rw (same_to e) (λ _. refl))
-            (λ (ne : n.to k ≢ p). rw (other_to ne) old.idle_took_none) (cases_eq (n.to k) p);
-        evaluated_took_all = ⊎_elim (λ (e : n.to k ≡ p). rw (same_to e) (λ v. absurd (idle_not v)))
-            (λ (ne : n.to k ≢ p). rw (other_to ne) old.evaluated_took_all) (cases_eq (n.to k) p);
-        gave_none_yet = ⊎_elim
-            (λ (e : n.from k ≡ p). let t : (n.from k == p) ≡ true = eq-eqb (n.from k) p e in rw t (λ _. refl))
-            (λ (ne : n.from k ≢ p). let f : (n.from k == p) ≡ false = ne_eqb (n.from k) p ne in rw f old.gave_none_yet)
-            (cases_eq (n.from k) p);
+        queue = record {
+          count = omega (arith, old.queue.count, a, b);
+          in_order = old.queue.in_order ∙ ap (λ (q : ℕ). tokens r k q (length (h.held k))) (sym a);
+          room = old.queue.room;
+        };
+        taker = record {
+          copied = ⊎_elim (λ (e : n.to k ≡ p). rw (same_to e) (λ (c : false ≡ true). absurd (true≢false (sym c))))
+              (λ (ne : n.to k ≢ p). rw (other_to ne) old.taker.copied) (cases_eq (n.to k) p);
+          idle_took_none = ⊎_elim (λ (e : n.to k ≡ p). rw (same_to e) (λ _. refl))
+              (λ (ne : n.to k ≢ p). rw (other_to ne) old.taker.idle_took_none) (cases_eq (n.to k) p);
+          evaluated_took_all = ⊎_elim (λ (e : n.to k ≡ p). rw (same_to e) (λ v. absurd (idle_not v)))
+              (λ (ne : n.to k ≢ p). rw (other_to ne) old.taker.evaluated_took_all) (cases_eq (n.to k) p);
+        };
+        giver = record {
+          gave_none_yet = ⊎_elim
+              (λ (e : n.from k ≡ p). let t : (n.from k == p) ≡ true = eq-eqb (n.from k) p e in rw t (λ _. refl))
+              (λ (ne : n.from k ≢ p).
+              let f : (n.from k == p) ≡ false = ne_eqb (n.from k) p ne in rw f old.giver.gave_none_yet)
+              (cases_eq (n.from k) p);
+        };
       }
 
-  pub close_keeps : (h : Half S V) (p : ℕ) → MayClose n h p → HalfHolds n r rows at h
-      → HalfHolds n r rows (put p (at p + 1) at) (after_close n p h)
+  pub close_keeps : (h : SideState S V) (p : ℕ) → MayClose n h p → SideHolds n r rows at h
+      → SideHolds n r rows (put p (at p + 1) at) (after_close n p h)
   close_keeps h p may old = record {
     part = λ x l. close_part h p x may (old.part p may.there) (old.part x l);
     channel = λ k l. close_channel h p k may l (old.channel k l);
@@ -384,11 +425,12 @@ module _ {S V : Type 0} (n : Shape S V) (r : Run S V) (rows : ℕ) where
   -- ---- positions, more rows, the start
 
   -- the same at equal positions
-  pub at_equal : (a b : ℕ → ℕ) (h : Half S V) → ((x : ℕ) → a x ≡ b x) → HalfHolds n r rows a h → HalfHolds n r rows b h
-  at_equal a b h same old = subst (λ (at : ℕ → ℕ). HalfHolds n r rows at h) (λ i x. same x i) old
+  pub at_equal : (a b : ℕ → ℕ) (h : SideState S V) → ((x : ℕ) → a x ≡ b x) → SideHolds n r rows a h
+      → SideHolds n r rows b h
+  at_equal a b h same old = subst (λ (at : ℕ → ℕ). SideHolds n r rows at h) (λ i x. same x i) old
 
-  pub half_extends : (at : ℕ → ℕ) (h : Half S V) (k : ℕ) → HalfHolds n r rows at h → HalfHolds n r (rows + k) at h
-  half_extends at h k old = record {
+  pub side_extends : (at : ℕ → ℕ) (h : SideState S V) (k : ℕ) → SideHolds n r rows at h → SideHolds n r (rows + k) at h
+  side_extends at h k old = record {
     part = λ p l. let m = old.part p l in record {
       own = m.own;
       within = (let a = m.within in omega (arith, a));
@@ -399,8 +441,8 @@ module _ {S V : Type 0} (n : Shape S V) (r : Run S V) (rows : ℕ) where
     channel = old.channel;
   }
 
-  pub half_starts : (at : ℕ → ℕ) → IsShape n → ((x : ℕ) → at x ≡ 0) → HalfHolds n r rows at (first_half n r)
-  half_starts at shape zeros = at_equal (λ _. 0) at (first_half n r) (λ x. sym (zeros x)) record {
+  pub side_starts : (at : ℕ → ℕ) → IsShape n → ((x : ℕ) → at x ≡ 0) → SideHolds n r rows at (first_side_state n r)
+  side_starts at shape zeros = at_equal (λ _. 0) at (first_side_state n r) (λ x. sym (zeros x)) record {
     part = λ p l. record {
       own = refl;
       within = omega arith;
@@ -409,12 +451,18 @@ module _ {S V : Type 0} (n : Shape S V) (r : Run S V) (rows : ℕ) where
       right = λ v. absurd (idle_not v);
     };
     channel = λ k l. record {
-      count = refl;
-      in_order = refl;
-      room = omega (arith, shape.deep);
-      copied = λ c. absurd (true≢false (sym c));
-      idle_took_none = λ _. refl;
-      evaluated_took_all = λ v. absurd (idle_not v);
-      gave_none_yet = λ _. refl;
+      queue = record {
+        count = refl;
+        in_order = refl;
+        room = omega (arith, shape.deep);
+      };
+      taker = record {
+        copied = λ c. absurd (true≢false (sym c));
+        idle_took_none = λ _. refl;
+        evaluated_took_all = λ v. absurd (idle_not v);
+      };
+      giver = record {
+        gave_none_yet = λ _. refl;
+      };
     };
   }
