@@ -105,4 +105,3 @@ pub fn token_laws()
     ensures one { HaveOneList }
     ensures longest { TakesLongest }
 {}
-

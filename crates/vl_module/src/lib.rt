@@ -67,4 +67,3 @@ pub fn parse_module(alloc: Global, tokens: &[Token]) -> Result<Module, SynFault>
         Err(SynFault::NoTree)
     }
 }
-

@@ -43,4 +43,3 @@ pub fn is_sound_in(top: &Module, scope: &Scope<'_>) -> bool
         && counts::is_short(top)
         && counts::stops_once(top)
 }
-
