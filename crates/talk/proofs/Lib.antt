@@ -1,0 +1,4 @@
+pub mod DecimalLaws
+pub mod FileLaws
+pub mod OptionLaws
+pub mod WritesLaws

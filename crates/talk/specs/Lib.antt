@@ -1,0 +1,7 @@
+pub mod Named
+pub mod Pieces
+pub mod Plain
+pub mod Reading
+pub mod Report
+pub mod Words
+pub mod Writes

@@ -1,0 +1,16 @@
+//! What the program is told and what it says: the words of a command line, and the report.
+//!
+//! Below: `dt_core`, `dt_io`, `itoa`. Above: `dessert`.
+//! Promise: `read_words` gives the one job of words that are an allowed line, and else the number of the first word that no allowed
+//! line has in this place after the words before it; no other answer, and no memory is taken. `write_report` appends the
+//! text of an answer; or the sink's count of faults rose, and a front of it was appended.
+//! `specs/Words` says which lines are allowed, as a grammar of lines, and what each asks for; `specs/Report` has all texts.
+//! Not said: that a file of a line is there, or that a design has the module that is named.
+#![tactic(auto)]
+
+pub mod answer;
+pub mod job;
+pub mod options;
+mod piece;
+pub mod report;
+pub mod words;
