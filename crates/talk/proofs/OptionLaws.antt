@@ -1,23 +1,20 @@
 -- The options of a line.
-use Rattle.std.proofs.Common.{◌≡◌, ℕ, suc, ◌+◌, ◌<◌, ◌≤◌, List, [], ◌∷◌, ◌++◌, map, length, take, drop, Bool, true, false, refl, sym, ap, ◌∙◌, arith, take-append-drop}
-use Rattle.std.specs.Prelude.{not, ◌&&◌, IsTrue, Option, Some, None, is_some, bytes_eq, codes}
-use Rattle.std.proofs.lemmas.Bool.{false≢true}
+use Rattle.std.proofs.Common.{◌≡◌, ℕ, suc, ◌+◌, ◌≤◌, List, [], ◌∷◌, ◌++◌, map, length, take, drop, Bool, true, false, refl, sym, ap, ◌∙◌, arith, take-append-drop}
+use Rattle.std.specs.Prelude.{not, Option, Some, None, is_some, bytes_eq, codes}
 use Rattle.std.proofs.lemmas.Slice.Eq.{bytes_eq-Decides}
 use Rattle.talk.specs.declared.options.Command.{Command}
 use Rattle.talk.specs.declared.options.Key.TheVariants as k
-use Rattle.talk.specs.Words.{Word, Setting, set_to, setting_word, values_of, AllFit, head_of, has, options_of, takes, decimal_of, has_equals, settings, Settings}
-use Rattle.talk.specs.Reading.{setting_of, set_by, set, options_from, counted}
+use Rattle.talk.specs.Words.{Word, Setting, set_to, setting_word, values_of, AllFit, head_of, has, options_of, takes, decimal_of, has_equals, settings, Settings, first_number, first_value}
+use Rattle.talk.specs.Reading.{set, options_from, counted}
 
 -- a number that is set stays, and else is the first of the values
 abbrev pub number_after : Option ℕ → List (List ℕ) → Option ℕ
 number_after (Some n) vs = Some n
-number_after None [] = None
-number_after None (v ∷ vs) = Some (decimal_of v)
+number_after None vs = first_number vs
 
 abbrev pub value_after : Option (List ℕ) → List (List ℕ) → Option (List ℕ)
 value_after (Some v) vs = Some v
-value_after None [] = None
-value_after None (v ∷ vs) = Some v
+value_after None vs = first_value vs
 
 -- what is set after some settings
 abbrev pub after : Option ℕ → Option (List ℕ) → List Setting → Settings

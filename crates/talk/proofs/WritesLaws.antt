@@ -1,11 +1,11 @@
 -- Texts that are written one after another.
-use Rattle.std.proofs.Common.{◌≡◌, ℕ, ◌+◌, ◌≤◌, ◌<◌, List, [], ◌∷◌, ◌++◌, drop, get_or, length, take, Ok, Err, sym, subst, ap, ◌∙◌, arith, append-nil, append_assoc, refl}
-use Rattle.std.specs.Prelude.{Option, Some, None, Result, min, OnOk, OnErr, IsErr}
+use Rattle.std.proofs.Common.{◌≡◌, ℕ, ◌+◌, ◌<◌, List, [], ◌∷◌, ◌++◌, drop, get_or, length, take, Ok, Err, sym, subst, ap, ◌∙◌, arith, append-nil, append_assoc, refl}
+use Rattle.std.specs.Prelude.{Option, Result, min, IsErr}
 use Rattle.std.specs.Io.KnownBytes.{Appends}
 use Rattle.std.proofs.KnownBytes.{Appends-trans, Appends-nil}
 use Rattle.std.proofs.Math.Seq.{take-append-add, take-length}
 use Rattle.std.proofs.lemmas.List.{take-append-le, take_min, at_drop_more}
-use Rattle.dt_core.specs.Causes.{Rose, HasCause, AppendsPart}
+use Rattle.dt_core.specs.Causes.{HasCause, AppendsPart}
 use Rattle.dt_core.specs.declared.fault.Failed.{Failed}
 use Rattle.talk.specs.Writes.{Writes}
 

@@ -8,9 +8,20 @@
 //! Not said: that a file of a line is there, or that a design has the module that is named.
 #![tactic(auto)]
 
+ghost use Rattle.talk.specs.Laws.{OneJob, OneNumber, BadIsNoLine, UsageHasNumber};
+
 pub mod answer;
 pub mod job;
 pub mod options;
 mod piece;
 pub mod report;
 pub mod words;
+
+/// Words ask for one job at most, and one word at most is the first bad one; words with a bad one are no allowed line, and the
+/// line that is written for them has its number.
+pub fn words_law()
+    ensures one_job { OneJob }
+    ensures one_number { OneNumber }
+    ensures no_line { BadIsNoLine }
+    ensures has_number { UsageHasNumber }
+{}

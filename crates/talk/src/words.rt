@@ -120,7 +120,10 @@ fn count_files(words: &[&str]) -> usize
     ensures most { result ≤ MAX_FILES }
 {
     for (place, word) in words.iter().enumerate() {
-        if place >= MAX_FILES || !is_file_word(word) {
+        if place >= MAX_FILES {
+            return place;
+        }
+        if !is_file_word(word) {
             return place;
         }
     }

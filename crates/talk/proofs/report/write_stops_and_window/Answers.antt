@@ -1,4 +1,4 @@
-use Rattle.std.proofs.Common.{◌++◌, codes, refl}
+use Rattle.std.proofs.Common.{◌++◌, refl}
 use Rattle.talk.specs.Report.{stops_text, window_text}
 use Rattle.talk.proofs.WritesLaws.{then_writes, stopped_first}
 use Rattle.talk.proofs.report.write_stops_and_window.Goals as goal
