@@ -1,4 +1,5 @@
--- How a reader goes over words, one after another. The grammar of lines is in `Words`; the laws tie the two. This project's own.
+-- How a reader goes over words, one after another. `Words` has the grammar of lines, and the laws tie the two.
+-- This project's own.
 use Rattle.std.specs.Prelude.{ℕ, ◌+◌, ◌&&◌, if◌then◌else◌, nat_lt, List, [], ◌∷◌, length, take, drop, bytes_eq, codes, Option, Some, None}
 use Rattle.dt_core.specs.declared.limits.TheConstants.{MAX_FILES}
 use Rattle.talk.specs.declared.options.TheConstants.{MAX_LAG}

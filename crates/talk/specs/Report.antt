@@ -47,11 +47,26 @@ abbrev pub failure_text : ℕ → List StopLine → ℕ → List ℕ
 failure_text cycle stops first =
     counted (codes "failure at cycle ") cycle (codes "\n") ++ (stops_text stops ++ window_text first cycle)
 
+-- ---- no failure
+
+-- in so many cycles: `no failure in N cycles`
+abbrev pub quiet_text : ℕ → List ℕ
+quiet_text cycles = counted (codes "no failure in ") cycles (codes " cycles\n")
+
+-- in the cycles of a window: `no failure in cycles F to T`
+abbrev pub quiet_span_text : ℕ → ℕ → List ℕ
+quiet_span_text first last = span (codes "no failure in cycles ") first last
+
 -- ---- a refusal
+
+-- words with a bad one: `usage: word N`
+abbrev pub usage_text : ℕ → List ℕ
+usage_text number = counted (codes "usage: word ") number (codes "\n")
 
 -- a driven part on a loop: `loop PATH PLACE WIDTH`
 abbrev pub loop_text : LoopLine → List ℕ
-loop_text p = codes "loop " ++ (p.path ++ (codes " " ++ (decimal p.place ++ (codes " " ++ (decimal p.width ++ codes "\n")))))
+loop_text p =
+    codes "loop " ++ (p.path ++ (codes " " ++ (decimal p.place ++ (codes " " ++ (decimal p.width ++ codes "\n")))))
 
 abbrev pub loops_text : List LoopLine → List ℕ
 loops_text [] = []
@@ -59,7 +74,8 @@ loops_text (p ∷ parts) = loop_text p ++ loops_text parts
 
 -- a fault of the design: `design: FILE:LINE: KIND`
 abbrev pub fault_text : List ℕ → ℕ → List ℕ → List ℕ
-fault_text file line kind = codes "design: " ++ (file ++ (codes ":" ++ (decimal line ++ (codes ": " ++ (kind ++ codes "\n")))))
+fault_text file line kind =
+    codes "design: " ++ (file ++ (codes ":" ++ (decimal line ++ (codes ": " ++ (kind ++ codes "\n")))))
 
 -- a refused input: `stimulus: line N: KIND` or `image: line N: KIND`
 abbrev pub refused_text : List ℕ → ℕ → List ℕ → List ℕ
@@ -74,9 +90,9 @@ file_text name what = codes "file " ++ (name ++ what)
 -- the report of an answer
 abbrev pub report_text : Answer → List ℕ
 report_text (a.Failure cycle stops first) = failure_text cycle stops.items first
-report_text (a.NoFailure cycles) = counted (codes "no failure in ") cycles (codes " cycles\n")
-report_text (a.NoFailureIn first last) = span (codes "no failure in cycles ") first last
-report_text (a.Usage number) = counted (codes "usage: word ") number (codes "\n")
+report_text (a.NoFailure cycles) = quiet_text cycles
+report_text (a.NoFailureIn first last) = quiet_span_text first last
+report_text (a.Usage number) = usage_text number
 report_text (a.Design file line kind parts) = fault_text file line kind ++ loops_text parts.items
 report_text (a.Stimulus line kind) = refused_text (codes "stimulus: line ") line kind
 report_text (a.Image line kind) = refused_text (codes "image: line ") line kind

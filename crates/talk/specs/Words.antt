@@ -1,5 +1,5 @@
--- The words of a command line: which lines are allowed, what each asks for, and which word is the first that no line has.
--- This project's own. Commands and options are rows of tables.
+-- The words of a command line: which lines are allowed, what each asks for, and which word is the first that no line
+-- has. Commands and options are rows of tables. This project's own.
 use Rattle.std.specs.Prelude.{ℕ, ◌*◌, ◌+◌, ◌-◌, ◌==◌, ◌≡◌, ◌≤◌, ◌<◌, Bool, true, false, IsTrue, not, ◌&&◌, ◌||◌, if◌then◌else◌, nat_le, List, [], ◌∷◌, ◌++◌, map, length, take, fold, codes, Option, Some, None}
 use Rattle.std.specs.List.{list_any, list_all}
 use Rattle.std.specs.Char.{is_ascii_digit, is_ascii_alphabetic}
@@ -44,7 +44,8 @@ begins_name b = is_ascii_alphabetic b || b == 95
 abbrev pub is_in_name : ℕ → Bool
 is_in_name b = begins_name b || is_ascii_digit b || b == 36
 
--- a simple name of the language, within the limit of names; a keyword is one here, since an escaped name may be spelt like it
+-- a simple name of the language, within the limit of names; a keyword is one here, since an escaped name may be spelt
+-- like it
 abbrev pub is_name : List ℕ → Bool
 is_name [] = false
 is_name (b ∷ bs) = begins_name b && nat_le (length (b ∷ bs)) MAX_NAME && list_all is_in_name bs
@@ -123,7 +124,8 @@ pub record Line : Type 0 where
 abbrev pub words_of : Line → List Word
 words_of l = word_of l.command ∷ (map setting_word l.settings ++ l.files)
 
--- an allowed line: each setting fits the command, each option stands at most once, and there is a file word, and not too many
+-- an allowed line: each setting fits the command, each option stands at most once, and there is a file word, and not
+-- too many
 pub record IsAllowed (l : Line) : Type 0 where
   pub fits : AllFit l.command l.settings
   pub once : (key : Key) → length (values_of key l.settings) ≤ 1
@@ -186,8 +188,8 @@ IsLine words = (job : Job) × Asks words job
 abbrev pub Begins : List Word → Type 0
 Begins words = (more : List Word) × IsLine (words ++ more)
 
--- the words before the one of this number, from 1, begin an allowed line, and with it they begin none; or all words begin an
--- allowed line without being one, and the number is that of the word that is missing
+-- the words before the one of this number, from 1, begin an allowed line, and with it they begin none; or all words
+-- begin an allowed line without being one, and the number is that of the word that is missing
 pub record IsFirstBad (words : List Word) (number : ℕ) : Type 0 where
   pub before : ℕ
   pub number_is : number ≡ before + 1

@@ -2,8 +2,8 @@
 
 use dt_core::text::Text;
 
-/// An assertion that fired: the path of the scope in which its block stands, whether it is `$fatal`, the file and the line
-/// (from 1) where it stands, and its message.
+/// An assertion that fired: the path of the scope in which its block stands, whether it is `$fatal`, its file and
+/// its line, from 1, and its message.
 #[derive(Debug, Drop)]
 pub struct StopLine {
     pub path: Text,

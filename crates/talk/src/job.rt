@@ -14,7 +14,7 @@ pub enum Job<'a> {
 /// Why words ask for nothing.
 #[derive(Clone, Copy, PartialEq, Eq, Debug, Drop)]
 pub enum Usage {
-    /// The word of this number, from 1, is the first that no allowed line has in this place after the words before it; where a
-    /// word is missing, it is the number of words plus 1.
+    /// The word of this number, from 1, is the first that no allowed line has in this place after the words before
+    /// it. Where a word is missing, it is the number of words plus 1.
     Word { number: u32 },
 }

@@ -1,10 +1,14 @@
 //! What the program is told and what it says: the words of a command line, and the report.
 //!
 //! Below: `dt_core`, `dt_io`, `itoa`. Above: `dessert`.
-//! Promise: `read_words` gives the one job of words that are an allowed line, and else the number of the first word that no allowed
-//! line has in this place after the words before it; no other answer, and no memory is taken. `write_report` appends the
-//! text of an answer; or the sink's count of faults rose, and a front of it was appended.
-//! `specs/Words` says which lines are allowed, as a grammar of lines, and what each asks for; `specs/Report` has all texts.
+//! Promise: `read_words` gives the one job of words that are an allowed line, and else the number of the first word
+//! that no allowed line has in this place after the words before it. It takes no memory and has no other answer.
+//! `write_report` appends the text of an answer; or the sink's count of faults rose, and a front of the text was
+//! appended.
+//! `specs/Words` says which lines are allowed, as a grammar of lines, and what each asks for; `specs/Report` has the
+//! texts.
+//! A command or option that isn't built is a bad word. To build one is to add its row to each table of `options` and
+//! `specs/Words`, and its variant to `Job`.
 //! Not said: that a file of a line is there, or that a design has the module that is named.
 #![tactic(auto)]
 
@@ -17,8 +21,8 @@ mod piece;
 pub mod report;
 pub mod words;
 
-/// Words ask for one job at most, and one word at most is the first bad one; words with a bad one are no allowed line, and the
-/// line that is written for them has its number.
+/// Words ask for one job at most, and one word at most is the first bad one. Words with a bad one are no allowed
+/// line, and the line that is written for them has its number.
 pub fn words_law()
     ensures one_job { OneJob }
     ensures one_number { OneNumber }

@@ -249,6 +249,30 @@ fn write_file<'x, T: Sink>(report: &mut T, name: &'x [u8], what: &'x [u8]) -> Re
     )
 }
 
+// Writes that no assertion fired in so many cycles.
+fn write_quiet<T: Sink>(report: &mut T, cycles: u64) -> Result<(), Failed>
+    ensures { Writes (text.quiet_text cycles) result (T.held report.old) (T.held report.new) (T.faults report.old)
+        (T.faults report.new) }
+{
+    write_counted(report, b"no failure in ", cycles, b" cycles\n")
+}
+
+// Writes that no assertion fired from the first of these cycles to the last.
+fn write_quiet_span<T: Sink>(report: &mut T, first: u64, last: u64) -> Result<(), Failed>
+    ensures { Writes (text.quiet_span_text first last) result (T.held report.old) (T.held report.new)
+        (T.faults report.old) (T.faults report.new) }
+{
+    write_span(report, b"no failure in cycles ", first, last)
+}
+
+// Writes the number of the first bad word.
+fn write_usage<T: Sink>(report: &mut T, number: u32) -> Result<(), Failed>
+    ensures { Writes (text.usage_text number) result (T.held report.old) (T.held report.new) (T.faults report.old)
+        (T.faults report.new) }
+{
+    write_counted(report, b"usage: word ", u64::from(number), b"\n")
+}
+
 // Writes the report of an answer.
 fn write_answer<T: Sink>(report: &mut T, answer: &Answer) -> Result<(), Failed>
     ensures { Writes (text.report_text answer.now) result (T.held report.old) (T.held report.new) (T.faults report.old)
@@ -260,24 +284,9 @@ fn write_answer<T: Sink>(report: &mut T, answer: &Answer) -> Result<(), Failed>
             stops,
             first,
         } => write_failure(report, *cycle, stops, *first),
-        Answer::NoFailure { cycles } => write_counted(
-            report,
-            b"no failure in ",
-            *cycles,
-            b" cycles\n",
-        ),
-        Answer::NoFailureIn { first, last } => write_span(
-            report,
-            b"no failure in cycles ",
-            *first,
-            *last,
-        ),
-        Answer::Usage { number } => write_counted(
-            report,
-            b"usage: word ",
-            u64::from(*number),
-            b"\n",
-        ),
+        Answer::NoFailure { cycles } => write_quiet(report, *cycles),
+        Answer::NoFailureIn { first, last } => write_quiet_span(report, *first, *last),
+        Answer::Usage { number } => write_usage(report, *number),
         Answer::Design {
             file,
             line,

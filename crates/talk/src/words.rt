@@ -56,10 +56,12 @@ fn read_rest<'a>(command: Command, words: &'a [&'a str]) -> Result<Job<'a>, usiz
     }
 }
 
-// What the options at the head of the words are set to, and how many they are; or how many words stand before the first bad one.
+// What the options at the head of the words are set to, and how many they are; or how many words stand before the
+// first bad one.
 fn read_options<'a>(command: Command, words: &'a [&'a str]) -> Result<(Settings<'a>, usize), usize>
     ensures value { MatchResult result
-        (λ s. reading.options_from command reading.none_set 0 (named words.now) ≡ reading.to_files (reading.seen s.0) s.1)
+        (λ s. reading.options_from command reading.none_set 0 (named words.now)
+        ≡ reading.to_files (reading.seen s.0) s.1)
         (λ before. reading.options_from command reading.none_set 0 (named words.now) ≡ reading.stopped before) }
     ensures few { MatchResult result (λ s. s.1 ≤ 2) (λ before. before ≤ 2) }
     ensures within { MatchResult result (λ s. s.1 ≤ length words.now) (λ _. Unit {0}) }

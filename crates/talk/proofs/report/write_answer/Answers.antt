@@ -1,13 +1,7 @@
 use Rattle.std.proofs.Common.{ap, sym, ◌∙◌, codes, List, ℕ}
-use Rattle.talk.specs.Report.{report_text, counted, file_text}
+use Rattle.talk.specs.Report.{report_text, file_text}
 use Rattle.talk.proofs.WritesLaws.{same_text}
 use Rattle.talk.proofs.report.write_answer.Goals as goal
-
-pub returns-in-Usage : goal.returns-in-Usage
-returns-in-Usage g c =
-    same_text (g.T.Sink.held c.args.report.now) (g.T.Sink.held c.write_counted-in-Usage.new.report) (g.T.Sink.faults c.args.report.now) (g.T.Sink.faults c.write_counted-in-Usage.new.report)
-    (counted (codes "usage: word ") c.from.result (codes "\n")) (report_text c.args.answer.now) c.write_counted-in-Usage.result
-    (ap (λ n. counted (codes "usage: word ") n (codes "\n")) c.from.ensures ∙ ap report_text (sym c.in-Usage.is)) c.write_counted-in-Usage.ensures
 
 pub returns-in-FileTooLong : goal.returns-in-FileTooLong
 returns-in-FileTooLong g c =
