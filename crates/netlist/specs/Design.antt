@@ -8,8 +8,9 @@ use Rattle.netlist.specs.declared.design.RegisterPart.{RegisterPart}
 use Rattle.netlist.specs.declared.design.MemoryWrite.{MemoryWrite}
 use Rattle.netlist.specs.declared.node.Node.{Node}
 
--- the scopes, the first of which is the top; the signals; the signals that are data inputs, in order of the ports; the driven parts and the
--- register parts, in order of signal, then of place; the memories; the nodes; the writes to memories in order of execution; the clocked blocks
+-- the scopes, the first of which is the top; the signals; the signals that are data inputs, in order of the ports;
+-- the driven parts and the register parts, in order of signal, then of place; the memories; the nodes; the writes to
+-- memories in order of execution; the clocked blocks
 pub record Flat : Type 0 where
   pub scopes : List Scope
   pub signals : List Signal

@@ -55,14 +55,15 @@ HasWords memories k width = IsSomeAnd (slice_get memories k) (λ m. m.width ≡ 
 -- the operator takes nodes of these widths and gives this one
 abbrev pub BinaryFits : List Node → ℕ → Binary → ℕ → ℕ → Type 0
 BinaryFits lower w operator a b =
-    HasNode lower a (λ v. (w ≡ binary_width operator v) × HasNode lower b (λ u. takes_one_width operator ≡ true → v ≡ u))
+    HasNode lower a (λ v. (w ≡ binary_width operator v) × HasNode lower b (λ u. takes_one_width operator ≡ true
+    → v ≡ u))
 
 -- the widths of the two nodes are this one together
 abbrev pub ConcatFits : List Node → ℕ → ℕ → ℕ → Type 0
 ConcatFits lower w a b = HasNode lower a (λ v. HasNode lower b (λ u. v + u ≡ w))
 
--- an operation reads nodes of the list alone, whose widths and its own are those that the call of `bit_ops` takes and gives; a constant is
--- below 2^width; the signal or the memory that it reads is there
+-- an operation reads nodes of the list alone, whose widths and its own are those that the call of `bit_ops` takes and
+-- gives; a constant is below 2^width; the signal or the memory that it reads is there
 abbrev pub OperationFits : List Signal → List PlainMemory → List Node → ℕ → Operation → Type 0
 OperationFits ss ms lower w (o.Constant value) = value < 2 ^ w
 OperationFits ss ms lower w (o.Bits range) = (range.width ≡ w) × LiesWithin ss range
@@ -72,9 +73,11 @@ OperationFits ss ms lower w (o.Binary operator signed a b) = BinaryFits lower w 
 OperationFits ss ms lower w (o.Extend signed a) = HasNode lower a (λ v. v ≤ w)
 OperationFits ss ms lower w (o.Cut a) = HasNode lower a (λ v. w ≤ v)
 OperationFits ss ms lower w (o.Select a place) = IsNode lower a × IsNode lower place.node
-OperationFits ss ms lower w (o.Insert a place b) = HasNode lower a (λ v. v ≡ w) × IsNode lower place.node × IsNode lower b
+OperationFits ss ms lower w (o.Insert a place b) = HasNode lower a (λ v. v ≡ w) × IsNode lower place.node
+    × IsNode lower b
 OperationFits ss ms lower w (o.Concat a b) = ConcatFits lower w a b
-OperationFits ss ms lower w (o.Choose c a b) = IsNode lower c × HasNode lower a (λ v. v ≡ w) × HasNode lower b (λ v. v ≡ w)
+OperationFits ss ms lower w (o.Choose c a b) = IsNode lower c × HasNode lower a (λ v. v ≡ w)
+    × HasNode lower b (λ v. v ≡ w)
 OperationFits ss ms lower w (o.Keep a b) = HasNode lower a (λ v. v ≡ w) × IsNode lower b
 
 -- a node fits these lower ones
@@ -107,7 +110,8 @@ RoleFits inputs k w role.Inner = Unit {0}
 
 -- a signal of this number, beside so many scopes
 abbrev pub SignalFits : ℕ → List ℕ → ℕ → Signal → Type 0
-SignalFits scopes inputs k s = IsNoneOrBelow scopes s.scope × IsWidth s.width × RoleFits inputs k s.width s.role × (s.kept < 2 ^ s.width)
+SignalFits scopes inputs k s = IsNoneOrBelow scopes s.scope × IsWidth s.width × RoleFits inputs k s.width s.role
+    × (s.kept < 2 ^ s.width)
 
 -- the role is that of the data input of this number
 abbrev pub IsInput : Role → ℕ → Type 0
@@ -129,7 +133,8 @@ IsBefore r q = (r.signal < q.signal) ⊎ ((r.signal ≡ q.signal) × (r.low + r.
 
 -- each element's range stands before that of the one after it
 abbrev pub AreInOrder : {X : Type 0} → (X → Range) → List X → Type 0
-AreInOrder {X} range xs = (k : ℕ) (d : X) → suc k < length xs → IsBefore (range (slice_index_or xs k d)) (range (slice_index_or xs (suc k) d))
+AreInOrder {X} range xs = (k : ℕ) (d : X) → suc k < length xs
+    → IsBefore (range (slice_index_or xs k d)) (range (slice_index_or xs (suc k) d))
 
 -- no bit lies in both
 abbrev pub AreApart : Range → Range → Type 0
@@ -148,7 +153,8 @@ InitialFits w n = IsWidth w × (n < 2 ^ w)
 
 -- a register part, beside so many blocks
 abbrev pub RegisterFits : ℕ → List Signal → List Node → RegisterPart → Type 0
-RegisterFits blocks signals nodes p = PlaceFits signals p.range × (p.block < blocks) × HasNode nodes p.next (λ w. w ≡ p.range.width)
+RegisterFits blocks signals nodes p = PlaceFits signals p.range × (p.block < blocks)
+    × HasNode nodes p.next (λ w. w ≡ p.range.width)
     × InitialFits p.range.width p.initial
 
 -- driven parts in order of signal, then of place, and register parts
@@ -165,7 +171,12 @@ AreAllApart driven registers = (i j : ℕ) (d : DrivenPart) (e : RegisterPart) �
 
 -- the driven parts from a number up to another stand before the range
 abbrev pub StandBefore : List DrivenPart → ℕ → ℕ → Range → Type 0
-StandBefore driven from to range = (k : ℕ) (d : DrivenPart) → from ≤ k → k < to → IsBefore (slice_index_or driven k d).range range
+StandBefore driven from to range = (k : ℕ) (d : DrivenPart) → from ≤ k → k < to
+    → IsBefore (slice_index_or driven k d).range range
+
+-- the driven part of this number, if there is one, doesn't stand before the range
+abbrev pub IsNotBefore : List DrivenPart → ℕ → Range → Type 0
+IsNotBefore driven k range = (d : DrivenPart) → k < length driven → ¬ (IsBefore (slice_index_or driven k d).range range)
 
 -- the range stands before the driven part of this number, if there is one
 abbrev pub IsBeforePart : Range → List DrivenPart → ℕ → Type 0
@@ -178,7 +189,8 @@ abbrev pub word_count : ℕ → ℕ → ℕ
 word_count first last = max first last - min first last + 1
 
 abbrev pub MemoryFits : ℕ → PlainMemory → Type 0
-MemoryFits blocks m = IsWidth m.width × (length m.words ≡ word_count m.first m.last) × All (λ w. w < 2 ^ m.width) m.words
+MemoryFits blocks m = IsWidth m.width × (length m.words ≡ word_count m.first m.last)
+    × All (λ w. w < 2 ^ m.width) m.words
     × IsNoneOrBelow blocks m.writer
 
 -- there is a number, and it is this one
@@ -192,7 +204,8 @@ IsWrittenBy memories k block = IsSomeAnd (slice_get memories k) (λ m. IsSomeOf 
 -- the write is by the block that is its memory's one writer
 abbrev pub WriteFits : ℕ → List PlainMemory → List Node → MemoryWrite → Type 0
 WriteFits blocks memories nodes w = (w.block < blocks) × IsWrittenBy memories w.memory w.block
-    × IsNode nodes w.condition × IsNode nodes w.index.node × IsNode nodes w.place.node × HasNode nodes w.value (λ v. v ≡ w.width)
+    × IsNode nodes w.condition × IsNode nodes w.index.node × IsNode nodes w.place.node
+    × HasNode nodes w.value (λ v. v ≡ w.width)
 
 abbrev pub EffectFits : List Node → Effect → Type 0
 EffectFits nodes (e.Said text) = Unit {0}
@@ -218,7 +231,8 @@ abbrev pub HasFewSignals : List Signal → Type 0
 HasFewSignals signals = count_by (λ s. is_some s.scope) signals ≤ MAX_SIGNALS
 
 abbrev pub HasFewInputs : List Signal → List ℕ → Type 0
-HasFewInputs signals inputs = (length inputs ≤ MAX_INPUTS) × (sum_by (λ s. input_width s.width s.role) signals ≤ MAX_INPUT_BITS)
+HasFewInputs signals inputs = (length inputs ≤ MAX_INPUTS) × (sum_by
+    (λ s. input_width s.width s.role) signals ≤ MAX_INPUT_BITS)
 
 abbrev pub HasFewWords : List PlainMemory → Type 0
 HasFewWords memories = sum_by (λ m. length m.words) memories ≤ MAX_WORDS

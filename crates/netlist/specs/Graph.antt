@@ -1,5 +1,5 @@
 -- What the nodes and the driven parts of a design read. This project's own.
-use Rattle.std.specs.Prelude.{◌≡◌, ℕ, zero, suc, ◌+◌, ◌<◌, ◌==◌, ◌&&◌, ◌||◌, Bool, true, false, nat_lt, nat_le, List, [], ◌∷◌, ◌++◌, slice_index_or, slice_get, IsSomeAnd, IsTrue}
+use Rattle.std.specs.Prelude.{◌≡◌, ℕ, zero, suc, ◌+◌, ◌==◌, ◌&&◌, ◌||◌, Bool, false, nat_lt, List, [], ◌∷◌, ◌++◌, slice_index_or, slice_get, IsSomeAnd, IsTrue}
 use Rattle.netlist.specs.Design.{Flat}
 use Rattle.netlist.specs.declared.design.Range.{Range}
 use Rattle.netlist.specs.declared.design.DrivenPart.{DrivenPart}
@@ -49,9 +49,11 @@ nodes_read q below (x ∷ xs) = nodes_read q (below ++ node_reads q below x ∷ 
 abbrev pub reads : Flat → ℕ → DrivenPart → Bool
 reads f n q = slice_index_or (nodes_read q.range [] f.nodes) n false
 
--- driven part p reads driven part q: a bit of the one reads a bit of the other (debugger's cut and order; not through a third part)
+-- driven part p reads driven part q: a bit of the one reads a bit of the other (debugger's cut and order; not through
+-- a third part)
 abbrev pub ReadsPart : Flat → ℕ → ℕ → Type 0
-ReadsPart f p q = IsSomeAnd (slice_get f.driven p) (λ x. IsSomeAnd (slice_get f.driven q) (λ y. IsTrue (reads f x.node y)))
+ReadsPart f p q = IsSomeAnd (slice_get f.driven p) (λ x. IsSomeAnd (slice_get f.driven q) (λ y. IsTrue
+    (reads f x.node y)))
 
 -- driven part p comes to part q in so many reads, each from a part to one that it reads
 abbrev pub ReadsIn : Flat → ℕ → ℕ → ℕ → Type 0

@@ -2,7 +2,8 @@
 use Rattle.std.specs.Prelude.{ℕ, List, Option}
 use Rattle.netlist.specs.declared.design.Event.{Event}
 
--- a memory: the width of its words, the indices of its first and its last word, its words in the first cycle, the block that writes it
+-- a memory: the width of its words, the indices of its first and its last word, its words in the first cycle, the
+-- block that writes it
 pub record PlainMemory : Type 0 where
   pub width : ℕ
   pub first : ℕ

@@ -55,7 +55,8 @@ fn input_width(width: u32, role: Role) -> u32
     }
 }
 
-/// Whether the memories have no more words than the limit, and their bits and those of the register parts can be numbered.
+/// Whether the memories have no more words than the limit, and their bits and those of the register parts can be
+/// numbered.
 pub(crate) fn has_few_words_and_bits(registers: &[RegisterPart], memories: &[Memory]) -> bool
     requires { length registers.now < 2 ^ 32 }
     ensures { IsTrue result ↔ (fits.HasFewWords memories.now × (fits.state_bits registers.now memories.now < 2 ^ 32)) }

@@ -1,4 +1,5 @@
-//! The parts of a numbered design, but for its nodes. A part names another by its number, which is its place in the design's list.
+//! The parts of a numbered design, but for its nodes. A part names another by its number, which is its place in the
+//! design's list.
 
 use dt_core::place::Place;
 use dt_core::text::Text;
@@ -27,7 +28,8 @@ pub enum SignalKind {
     Integer,
 }
 
-/// What gives a signal its value: it is a clock name, the data input of a number, or neither, and then parts give it its bits.
+/// What gives a signal its value: it is a clock name, the data input of a number, or neither, and then parts give it
+/// its bits.
 #[derive(Clone, Copy, Debug, PartialEq, Eq)]
 pub enum Role {
     Clock,
@@ -35,10 +37,11 @@ pub enum Role {
     Inner,
 }
 
-/// A net or a variable: the scope in which it stands, if one, its name, its kind, its width of 1 to `MAX_WIDTH` bits, and its role.
+/// A net or a variable: the scope in which it stands, if one, its name, its kind, its width of 1 to `MAX_WIDTH` bits,
+/// and its role.
 ///
-/// A variable of no scope is seen by nobody outside. `kept` is what its bits hold in every cycle that lie in no part, a number below 2^width; of a
-/// clock name and of a data input it says nothing.
+/// A variable of no scope is seen by nobody outside. `kept` is what its bits hold in every cycle that lie in no part,
+/// a number below 2^width; of a clock name and of a data input it says nothing.
 #[derive(Debug, Drop)]
 pub struct Signal {
     pub scope: Option<u32>,
@@ -64,8 +67,8 @@ pub struct DrivenPart {
     pub node: u32,
 }
 
-/// Bits that a clocked block writes: they begin with `initial`, a number below 2^width, and take the value of the node `next` from one cycle
-/// to the next.
+/// Bits that a clocked block writes: they begin with `initial`, a number below 2^width, and take the value of the
+/// node `next` from one cycle to the next.
 #[derive(Clone, Copy, Debug, PartialEq, Eq)]
 pub struct RegisterPart {
     pub range: Range,
@@ -81,8 +84,9 @@ pub struct Index {
     pub signed: bool,
 }
 
-/// A memory: the width of its words of 1 to `MAX_WIDTH` bits, the indices of its first and its last word, its words in the first cycle from the
-/// least index on, each below 2^width, and the clocked block that writes it. What no block writes is constant.
+/// A memory: the width of its words of 1 to `MAX_WIDTH` bits, the indices of its first and its last word, its words
+/// in the first cycle from the least index on, each below 2^width, and the clocked block that writes it. What no
+/// block writes is constant.
 #[derive(Debug, Drop)]
 pub struct Memory {
     pub width: u32,
@@ -97,11 +101,17 @@ impl Model for Memory {
 
     ghost Value = { PlainMemory };
 
-    ghost view = { λ m. record { width = m.width; first = m.first; last = m.last; words = m.words.items; writer = m.writer } };
+    ghost view = { λ m. record {
+      width = m.width;
+      first = m.first;
+      last = m.last;
+      words = m.words.items;
+      writer = m.writer;
+    } };
 }
 
-/// A write of a clocked block: where the condition, a node, isn't 0, the `width` bits from `place` upward of the memory's word at `index` take
-/// the value of a node. What falls outside of the memory or of the word is lost.
+/// A write of a clocked block: where the condition, a node, isn't 0, the `width` bits from `place` upward of the
+/// memory's word at `index` take the value of a node. What falls outside of the memory or of the word is lost.
 #[derive(Clone, Copy, Debug, PartialEq, Eq)]
 pub struct MemoryWrite {
     pub block: u32,

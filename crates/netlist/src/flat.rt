@@ -17,8 +17,8 @@ use std::marker::Model;
 
 /// The parts of a numbered design, which may not fit together yet.
 ///
-/// The first scope is the top. `inputs` are the signals that are data inputs, in order of the ports. The driven parts and the register parts
-/// stand in order of signal, then of place, the writes in order of execution.
+/// The first scope is the top. `inputs` are the signals that are data inputs, in order of the ports. The driven parts
+/// and the register parts stand in order of signal, then of place, the writes in order of execution.
 #[derive(Drop)]
 pub struct FlatDraft {
     pub scopes: Vec<Scope>,

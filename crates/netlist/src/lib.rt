@@ -1,7 +1,8 @@
-//! The numbered design of a whole hierarchy: scopes, signals, driven and register parts, memories, nodes of expressions, blocks with events.
+//! The numbered design of a whole hierarchy: scopes, signals, driven and register parts, memories, nodes of
+//! expressions, blocks with events.
 //!
-//! Below: `dt_core`, `bit_ops`. Above: what orders its driven parts and runs it. It takes the place of `flat_ir`, which numbers one module
-//! with one clocked block, once the crates above stand on it.
+//! Below: `dt_core`, `bit_ops`. Above: what orders its driven parts and runs it. It takes the place of `flat_ir`,
+//! which numbers one module with one clocked block, once the crates above stand on it.
 #![tactic(auto)]
 
 mod counts;

@@ -1,6 +1,6 @@
 //! Whether the driven parts and the register parts of a draft fit.
 
-ghost use Rattle.std.specs.Prelude.{◌≡◌, ◌↔◌, ◌<◌, ◌≤◌, length, slice_index_or, IsTrue};
+ghost use Rattle.std.specs.Prelude.{◌≡◌, ◌↔◌, ◌<◌, ◌≤◌, length, IsTrue};
 ghost use Rattle.std.specs.List.{All};
 ghost use Rattle.netlist.specs.Fits as fits;
 
@@ -142,12 +142,13 @@ fn is_before_part(range: &Range, driven: &[DrivenPart], number: usize) -> bool
     }
 }
 
-// The number of the first driven part from `from` on that doesn't stand before the range; their count where there is none.
+// The number of the first driven part from `from` on that doesn't stand before the range; their count where there is
+// none.
 fn first_not_before(driven: &[DrivenPart], from: usize, range: &Range) -> usize
     requires { from ≤ length driven.now }
     ensures from { (from ≤ result) × (result ≤ length driven.now) }
     ensures before { fits.StandBefore driven.now from result range.now }
-    ensures first { (d : _) → result < length driven.now → ¬ fits.IsBefore (slice_index_or driven.now result d).range range.now }
+    ensures first { fits.IsNotBefore driven.now result range.now }
 {
     let mut next = from;
     while next < driven.len() && is_before(&driven[next].range, range) {

@@ -1,4 +1,4 @@
-use Rattle.std.proofs.Common.{ℕ, ◌-◌, ◌≤◌, length}
+use Rattle.std.proofs.Common.{◌-◌, ◌≤◌, length}
 use Rattle.netlist.specs.Fits.{StandBefore}
 use Rattle.netlist.proofs.parts.first_not_before.Given as goal
 

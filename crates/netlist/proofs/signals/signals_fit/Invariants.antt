@@ -5,4 +5,5 @@ use Rattle.netlist.proofs.signals.signals_fit.Given as goal
 
 -- each signal so far fits
 abbrev pub invariant-loop-number : goal.invariant-loop-number
-invariant-loop-number l = (k : ℕ) (d : Signal) → k < l.number → SignalFits (length l.scopes) l.inputs k (get_or l.signals k d)
+invariant-loop-number l = (k : ℕ) (d : Signal) → k < l.number
+    → SignalFits (length l.scopes) l.inputs k (get_or l.signals k d)
