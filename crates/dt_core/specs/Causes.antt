@@ -20,8 +20,8 @@ AppendsPart old new text = (n : ℕ) × Appends old new (take n text)
 abbrev pub WriteAppends : {E : Type 0} → Option (List ℕ) → Option (List ℕ) → Result ℕ E → List ℕ → Type 0
 WriteAppends old new result piece =
     MatchResult result
-      (λ n. Appends old new (take n piece) × (n ≤ length piece) × (0 < length piece → 0 < n))
-      (λ _. Keeps old new)
+    (λ n. Appends old new (take n piece) × (n ≤ length piece) × (0 < length piece → 0 < n))
+    (λ _. Keeps old new)
 
 -- the call is one of those that the list names by number, counted from 1
 abbrev pub IsNamed : List ℕ → ℕ → Type 0
