@@ -1,11 +1,12 @@
 -- Worked examples of designs: a carry that ripples through parts, a loop, and a memory with two writes in one cycle.
-use Rattle.std.specs.Prelude.{◌≡◌, refl, ℕ, true, false, [], ◌∷◌, Some, None}
+use Rattle.std.proofs.Common.{◌≡◌, refl, ℕ, zero, suc, ◌-◌, ◌<◌, ◌≤◌, true, false, List, [], ◌∷◌, slice_index, slice_index_or, subst, arith}
+use Rattle.std.specs.Prelude.{Some, None}
 use Rattle.std.specs.Fmt.{digits}
 use Rattle.bit_ops.specs.declared.operator.Binary.TheVariants as two
 use Rattle.netlist.specs.Design.{Flat}
-use Rattle.netlist.specs.Graph.{reads}
+use Rattle.netlist.specs.Graph.{reads, ReadsPart, ReadsIn}
 use Rattle.netlist.specs.Run.{flat_start, flat_next, flat_fired, FlatSettles}
-use Rattle.netlist.specs.Order.{flat_val}
+use Rattle.netlist.specs.Order.{flat_val, IsOrder, IsNearest, IsLoop}
 use Rattle.netlist.specs.declared.design.Signal.{Signal}
 use Rattle.netlist.specs.declared.design.SignalKind.TheVariants as kind
 use Rattle.netlist.specs.declared.design.ScopeKind.TheVariants as scope
@@ -152,3 +153,55 @@ fired : flat_fired memory (flat_val memory [] (record {
 }) []) ≡ record { stop = 0; message = 109 ∷ 32 ∷ 57 ∷ [] } ∷ []
 unfolding digits
 fired = refl
+
+-- ---- an order of the one design, and the loop of the other
+
+differ : false ≡ true → ⊥
+differ h = cc
+
+-- a part of the carry reads those before it alone
+carries_in_order : (i j : ℕ) → i < 3 → j < 3
+    → ReadsPart ripple (slice_index (0 ∷ 1 ∷ 2 ∷ []) i) (slice_index (0 ∷ 1 ∷ 2 ∷ []) j) → j < i
+carries_in_order zero zero a b h = absurd (differ h)
+carries_in_order zero (suc zero) a b h = absurd (differ h)
+carries_in_order zero (suc (suc zero)) a b h = absurd (differ h)
+carries_in_order (suc zero) zero a b h = omega arith
+carries_in_order (suc zero) (suc zero) a b h = absurd (differ h)
+carries_in_order (suc zero) (suc (suc zero)) a b h = absurd (differ h)
+carries_in_order (suc (suc zero)) zero a b h = omega arith
+carries_in_order (suc (suc zero)) (suc zero) a b h = omega arith
+carries_in_order (suc (suc zero)) (suc (suc zero)) a b h = absurd (differ h)
+carries_in_order (suc (suc (suc i))) j a b h = absurd (omega arith)
+carries_in_order i (suc (suc (suc j))) a b h = absurd (omega arith)
+
+carry_has_place : (p : ℕ) → p < 3 → (i : ℕ) × (i < 3) × (slice_index (0 ∷ 1 ∷ 2 ∷ []) i ≡ p)
+carry_has_place zero l = (0, omega arith, refl)
+carry_has_place (suc zero) l = (1, omega arith, refl)
+carry_has_place (suc (suc zero)) l = (2, omega arith, refl)
+carry_has_place (suc (suc (suc p))) l = absurd (omega arith)
+
+ripple_order : IsOrder ripple (0 ∷ 1 ∷ 2 ∷ [])
+ripple_order = record { count = refl; each = carry_has_place; after = carries_in_order }
+
+-- part 0 reads part 1, which reads part 0
+one_read_back : (r m : ℕ) → ReadsPart loop 0 r → ReadsIn loop m r 0 → 1 ≤ m
+one_read_back r zero h back = absurd (differ (subst (λ x. ReadsPart loop 0 x) back h))
+one_read_back r (suc m) h back = omega arith
+
+not_itself : (r : ℕ) → ReadsPart loop 0 r → ReadsIn loop 1 r 0 → 1 ≤ r
+not_itself zero h back = absurd (differ h)
+not_itself (suc r) h back = omega arith
+
+nearest : (i : ℕ) → i < 2 → IsNearest loop (slice_index (0 ∷ 1 ∷ []) i) (slice_index_or (0 ∷ 1
+    ∷ []) (suc i) 0) 0 (2 - suc i)
+nearest zero l = record { reads = refl; back = (0, refl, refl); fewest = one_read_back; least = not_itself }
+nearest (suc zero) l = record {
+  reads = refl;
+  back = refl;
+  fewest = λ r m h back. omega arith;
+  least = λ r h back. omega arith;
+}
+nearest (suc (suc i)) l = absurd (omega arith)
+
+two_in_a_loop : IsLoop loop (0 ∷ 1 ∷ [])
+two_in_a_loop = record { some = omega arith; first = λ p n h. omega arith; next = nearest }

@@ -3,6 +3,7 @@ pub mod Design
 pub mod Graph
 pub mod Fits
 pub mod Drafted
+pub mod Laws
 pub mod Message
 pub mod Values
 pub mod Run
