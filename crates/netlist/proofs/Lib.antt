@@ -1,0 +1,4 @@
+pub mod Apart
+mod Examples
+pub mod PartsLaw
+pub mod ValuesLaw

@@ -1,0 +1,36 @@
+-- What follows from well-formedness. This project's own.
+use Rattle.std.specs.Prelude.{◌≡◌, ℕ, ◌+◌, ◌<◌, ◌≤◌, List, length, slice_get, slice_index, slice_index_or, Some}
+use Rattle.netlist.specs.Design.{Flat}
+use Rattle.netlist.specs.Fits.{IsWellFormed}
+use Rattle.netlist.specs.Values.{Values, node_value, node_values}
+use Rattle.netlist.specs.declared.node.Node.{Node}
+use Rattle.netlist.specs.declared.design.Range.{Range}
+use Rattle.netlist.specs.declared.design.DrivenPart.{DrivenPart}
+use Rattle.netlist.specs.declared.design.RegisterPart.{RegisterPart}
+
+-- the bit of a signal at a place lies in a range
+abbrev pub HasBit : Range → ℕ → ℕ → Type 0
+HasBit r signal place = (r.signal ≡ signal) × (r.low ≤ place) × (place < r.low + r.width)
+
+-- a bit that lies in two driven parts lies in one, so of register parts, and none lies in one of each
+pub record BitsLieInOnePart (f : Flat) : Type 0 where
+  pub driven : (i j s k : ℕ) (d : DrivenPart) → i < length f.driven → j < length f.driven
+      → HasBit (slice_index_or f.driven i d).range s k → HasBit (slice_index_or f.driven j d).range s k → i ≡ j
+  pub registers : (i j s k : ℕ) (d : RegisterPart) → i < length f.registers → j < length f.registers
+      → HasBit (slice_index_or f.registers i d).range s k → HasBit (slice_index_or f.registers j d).range s k → i ≡ j
+  pub both : (i j s k : ℕ) (d : DrivenPart) (e : RegisterPart) → i < length f.driven → j < length f.registers
+      → HasBit (slice_index_or f.driven i d).range s k → HasBit (slice_index_or f.registers j e).range s k → ⊥
+
+-- A law: no bit lies in two parts of a well-formed design.
+abbrev pub PartsLaw : Type 0
+PartsLaw = (f : Flat) → IsWellFormed f → BitsLieInOnePart f
+
+-- one value for each node: that of its operation over these values themselves
+pub record AreValues (f : Flat) (v : Values) (xs : List ℕ) : Type 0 where
+  pub count : length xs ≡ length f.nodes
+  pub each : (k : ℕ) (x : Node) → slice_get f.nodes k ≡ Some x → slice_index xs k ≡ node_value f v xs x
+
+-- A law: the nodes of a well-formed design have values over each valuation, and no others.
+pub record ValuesLaw : Type 0 where
+  pub are : (f : Flat) (v : Values) → IsWellFormed f → AreValues f v (node_values f v)
+  pub alone : (f : Flat) (v : Values) (xs : List ℕ) → IsWellFormed f → AreValues f v xs → xs ≡ node_values f v

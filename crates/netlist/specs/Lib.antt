@@ -1,0 +1,10 @@
+pub mod Plain
+pub mod Design
+pub mod Graph
+pub mod Fits
+pub mod Drafted
+pub mod Laws
+pub mod Message
+pub mod Values
+pub mod Run
+pub mod Order

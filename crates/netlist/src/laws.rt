@@ -1,0 +1,13 @@
+//! Laws of numbered designs. A call does nothing: its contract is the law, over all designs.
+
+ghost use Rattle.netlist.specs.Laws as laws;
+
+/// No bit lies in two parts of a well-formed design.
+pub fn parts_law()
+    ensures { laws.PartsLaw }
+{}
+
+/// The values of the nodes of a well-formed design are the one list in which each node has its value over the others.
+pub fn values_law()
+    ensures { laws.ValuesLaw }
+{}
