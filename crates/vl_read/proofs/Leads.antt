@@ -4,9 +4,9 @@ use Rattle.std.specs.Prelude.{Result, Ok, Err}
 use Rattle.vl_tree.specs.Derives.{Within, Sinks}
 use Rattle.vl_read.specs.declared.fault.Fault.{Fault}
 use Rattle.vl_read.specs.declared.fault.Fault.TheVariants as f
-use Rattle.vl_read.specs.Reading.{Covers, Took, Stuck, Sunk, Refuses, Reads, Both, BothDepths}
+use Rattle.vl_read.specs.Reading.{Covers, Took, Refuses, Reads, Both, BothDepths}
 use Rattle.vl_read.proofs.Pieces.{Links, took_less, took_as, took_after, took_both}
-use Rattle.vl_read.proofs.Fails.{fails_less, fails_as, fails_after, fails_first, fails_second}
+use Rattle.vl_read.proofs.Fails.{fails_less, fails_as, fails_after, fails_second}
 
 -- what a reader of D answers at `us`, a reader of E answers at `ts`
 pub record Leads {T N K : Type 0} (D : N → List T → List T → Type 0) (M : N → List ℕ) (F G : List T → Type 0) (us : List T)
@@ -140,3 +140,52 @@ module _ {T : Type 0} (P : List T → Type 0) (ts : List T) (none : P [])
     -- the same trees by other names, of tokens that begin as these do
     pub leads_where : Leads D M F G ts E L F G ts make
     leads_where = record { took = where_took; fails = where_fails }
+
+-- ---- after a token that is known, of the same tree
+
+module _ {T N : Type 0} (D : N → List T → List T → Type 0) (M : N → List ℕ) (E : N → List T → List T → Type 0) (L : N → List ℕ)
+    (F G : List T → Type 0) (a : T) (d : ℕ) (low : d ≤ 200)
+    (depths : (x : N) (us z : List T) → D x us z → L x ≡ d ∷ M x)
+    (into : (x : N) (us z : List T) → D x us z → E x (a ∷ us) z)
+    (out : (u : N) (us z : List T) → E u (a ∷ us) z → G z → D u us z) (ts us : List T) (h : ts ≡ a ∷ us) where
+  same_took : (t : N) (rest : List T) → Took D M F G t us rest → Took E L F G t ts rest
+  same_took t rest p = record {
+    used = a ∷ p.used;
+    whole = h ∙ ap (λ x. a ∷ x) p.whole;
+    here = subst (λ x. E t x rest) (sym h) (into t us rest p.here);
+    any = λ z may. into t (p.used ++ z) z (p.any z may);
+    kept = λ b after e y. into t (p.used ++ b ∷ y) (b ∷ y) (p.kept b after e y);
+    forced = λ b after e u y z c g. p.forced b after e u y z (out u (p.used ++ b ∷ y) z c g) g;
+    ended = λ u z c g. p.ended u z (out u p.used z c g) g;
+    deep = subst (Covers (a ∷ p.used)) (sym (depths t us rest p.here)) (low, p.deep);
+  }
+
+  sinks_next : (vs : List T) (es : List ℕ) → Sinks vs es → Sinks (a ∷ vs) (d ∷ es)
+  sinks_next [] es q = absurd q
+  sinks_next (b ∷ vs) es q = (low, q)
+
+  same_fails : (e : Fault) → Refuses D M F G us e → Refuses E L F G ts e
+  same_fails f.Memory r = r
+  same_fails (f.At left) s = record {
+    used = a ∷ s.used;
+    rest = s.rest;
+    whole = h ∙ ap (λ x. a ∷ x) s.whole;
+    place = s.place;
+    viable = λ z may.
+        let v = s.viable z may in
+        (v.0, v.1, into v.0 (s.used ++ v.1) z v.2, subst (Within (a ∷ s.used)) (sym (depths v.0 (s.used ++ v.1) z v.2)) (low, v.3));
+    bad = λ b after e u y z c g. s.bad b after e u y z (out u (s.used ++ b ∷ y) z c g) g;
+    short = λ u z c g. s.short u z (out u s.used z c g) g;
+  }
+  same_fails (f.Deep left) s = record {
+    used = a ∷ s.used;
+    rest = s.rest;
+    whole = h ∙ ap (λ x. a ∷ x) s.whole;
+    place = s.place;
+    viable = λ z may.
+        let v = s.viable z may in
+        (v.0, v.1, into v.0 (s.used ++ v.1) z v.2, subst (Sinks (a ∷ s.used)) (sym (depths v.0 (s.used ++ v.1) z v.2)) (sinks_next s.used (M v.0) v.3));
+  }
+
+  pub leads_same : Leads D M F G us E L F G ts (λ x. x)
+  leads_same = record { took = same_took; fails = same_fails }

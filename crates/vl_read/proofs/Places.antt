@@ -1,5 +1,5 @@
 -- The place of a refusal, and the end of a tree, in the whole list.
-use Rattle.std.proofs.Common.{◌≡◌, ℕ, suc, ◌+◌, ◌-◌, ◌≤◌, ◌<◌, List, [], ◌∷◌, ◌++◌, length, take, refl, sym, ◌∙◌, ap, subst}
+use Rattle.std.proofs.Common.{◌≡◌, ℕ, ◌+◌, ◌-◌, ◌≤◌, ◌<◌, List, [], ◌∷◌, ◌++◌, length, take, refl, sym, ◌∙◌, ap, subst}
 use Rattle.std.proofs.Common.{append_assoc, append-nil, length-append, arith}
 use Rattle.std.proofs.Math.Seq.{take-append-add}
 use lib.Seq.{take-append_seam}
@@ -68,6 +68,9 @@ module _ {T N : Type 0} (D : N → List T → List T → Type 0) (M : N → List
     none = subst (λ x. Derivable D x → ⊥) (sym s.whole) (whole_none s.used s.rest s.bad s.short);
   }
 
+  pub stuck_left : (ts : List T) (left : ℕ) → Stuck D M F G ts left → left ≤ length ts
+  stuck_left ts left s = omega (arith, ap length s.whole, length-append s.used s.rest, s.place)
+
   -- nor do those before the place
   pub stuck_none : (ts : List T) (left : ℕ) → Stuck D M F G ts left → Derivable D (take (length ts - left) ts) → ⊥
   stuck_none ts left s =
@@ -83,6 +86,11 @@ module _ {T N : Type 0} (D : N → List T → List T → Type 0) (M : N → List
   sinks_some : (used : List T) (ds : List ℕ) → Sinks used ds → 1 ≤ length used
   sinks_some [] ds p = absurd p
   sinks_some (a ∷ us) ds p = omega arith
+
+  pub sunk_left : (ts : List T) (left : ℕ) → Sunk D M F ts left → left ≤ length ts
+  sunk_left ts left s =
+      let v = s.viable [] f in
+      omega (arith, ap length s.whole, length-append s.used s.rest, s.place, sinks_some s.used (M v.0) v.3)
 
   pub sunk_deep : (ts : List T) (left : ℕ) → Sunk D M F ts left → IsTooDeep D M ts (length ts - left)
   sunk_deep ts left s =

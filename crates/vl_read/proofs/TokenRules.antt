@@ -1,9 +1,9 @@
 -- Single tokens: which of them comes, and what a reader that wants one answers.
-use Rattle.std.proofs.Common.{◌≡◌, ◌≤◌, ◌+◌, ℕ, suc, List, [], ◌∷◌, ◌++◌, length, refl, sym, ◌∙◌, ap, subst, append_assoc}
+use Rattle.std.proofs.Common.{◌≡◌, ◌≤◌, ◌+◌, ℕ, suc, List, [], ◌∷◌, length, drop, refl, sym, ◌∙◌, ap, subst}
 use Rattle.vl_tree.specs.Token.{Kind}
 use Rattle.vl_tree.specs.Token as k
 use Rattle.vl_tree.specs.Syntax.{Place, Name}
-use Rattle.std.proofs.lemmas.List.{length-map}
+use Rattle.std.proofs.lemmas.List.{length-map, drop-map}
 use Rattle.vl_tree.specs.declared.token.Token as declared
 use Rattle.vl_tree.specs.declared.token.TokenKind.{TokenKind}
 use Rattle.vl_tree.specs.declared.token.TokenKind.TheVariants as code
@@ -21,6 +21,9 @@ placed_length n (token line a ∷ ts) = ap suc (placed_length (n + 1) ts)
 
 pub left_is : (n : ℕ) (ts : List declared.Token) → length ts ≡ length (placed n (all_coded ts))
 left_is n ts = sym (placed_length n (all_coded ts) ∙ length-map ts coded)
+
+pub coded_drop : (n : ℕ) (ts : List declared.Token) → all_coded (drop n ts) ≡ drop n (all_coded ts)
+coded_drop n ts = sym (drop-map coded n ts)
 
 -- some place
 abbrev pub somewhere : Place

@@ -1,6 +1,6 @@
 //! A place in a list of tokens, and the single tokens there.
 
-ghost use Rattle.std.specs.Prelude.{◌≡◌, ◌∷◌, [], ◌↔◌, ◌<◌, ◌+◌, ◌-◌, ◌^◌, IsTrue, IfOk, IfSome, MatchOption, length};
+ghost use Rattle.std.specs.Prelude.{◌≡◌, ◌∷◌, [], ◌↔◌, ◌<◌, ◌+◌, ◌-◌, ◌^◌, IsTrue, IfOk, IfSome, MatchOption, ◌≤◌, drop, length};
 ghost use Rattle.vl_tree.specs.Token as k;
 ghost use Rattle.vl_tree.specs.Token.{all_coded, coded_kind};
 ghost use Rattle.vl_tree.specs.SyntaxView as view;
@@ -41,6 +41,18 @@ impl<'a> Cursor<'a> {
         ensures { result ≡ placed 0 (all_coded tokens.now) }
     {
         Cursor { tokens, first: 0 }
+    }
+
+    /// The token of this number, and those after it.
+    #[tactic(auto, using(crate::proofs::TokenRules::coded_drop))]
+    pub fn starting_at(tokens: &'a [Token], at: u32) -> Cursor<'a>
+        requires { (at ≤ length tokens.now) × (length tokens.now < 2 ^ 32 - 1) }
+        ensures { result ≡ placed at (drop at (all_coded tokens.now)) }
+    {
+        Cursor {
+            tokens: tokens.split_at(at as usize).1,
+            first: at,
+        }
     }
 
     /// How many tokens are left.

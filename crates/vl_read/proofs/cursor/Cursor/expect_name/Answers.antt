@@ -1,4 +1,4 @@
-use Rattle.std.proofs.Common.{rules, ◌≡◌, ◌∷◌, subst, sym}
+use Rattle.std.proofs.Common.{subst, sym}
 use Rattle.vl_read.proofs.TokenRules.{NotName, stuck_name, not_name}
 use Rattle.vl_read.proofs.cursor.Cursor.expect_name.Goals as goal
 

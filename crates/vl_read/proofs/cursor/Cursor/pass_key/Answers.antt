@@ -1,4 +1,3 @@
-use Rattle.std.proofs.Common.{rules}
 use Rattle.vl_tree.specs.Token as k
 use Rattle.vl_read.proofs.TokenRules.{stuck_kind}
 use Rattle.vl_read.proofs.cursor.Cursor.pass_key.Goals as goal

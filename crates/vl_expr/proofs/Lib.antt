@@ -1,0 +1,9 @@
+pub mod Levels
+pub mod Views
+pub mod Common
+pub mod Selects
+pub mod Chains
+pub mod Commas
+pub mod Primaries
+pub mod Braces
+pub mod Whole
