@@ -86,36 +86,38 @@ fn reported(alloc: Global, answer: &Answer, fails: &[u32]) -> Result<(Vec<u8>, b
     Ok((sink.bytes().to_vec(alloc)?, written))
 }
 
-// The answer has this report.
-fn assert_report(rt: HostRuntime, answer: Answer, report: &[u8]) -> Result<(), Fail> {
-    let (held, written) = reported(rt.alloc(), &answer, &[])?;
-    assert!(rt; written);
-    assert_eq!(rt; held.as_slice(), report);
-    Ok(())
+// Whether the answer has this report.
+fn has_report(alloc: Global, answer: Answer, report: &[u8]) -> Result<bool, Fail> {
+    let (held, written) = reported(alloc, &answer, &[])?;
+    Ok(written && held.as_slice() == report)
 }
 
 #[test]
 fn results_have_these_reports(rt: HostRuntime) -> Result<(), Fail> {
-    assert_report(rt, failure(rt.alloc())?, FAILURE)?;
-    assert_report(rt, loop_fault(rt.alloc())?, LOOP)?;
-    assert_report(rt, Answer::NoFailure { cycles: 0 }, NO_FAILURE)?;
+    let alloc: Global = rt.alloc();
+    assert!(rt; has_report(alloc, failure(alloc)?, FAILURE)?);
+    assert!(rt; has_report(alloc, loop_fault(alloc)?, LOOP)?);
+    assert!(rt; has_report(alloc, Answer::NoFailure { cycles: 0 }, NO_FAILURE)?);
     let window = Answer::NoFailureIn { first: 5, last: 12 };
-    assert_report(rt, window, NO_FAILURE_IN)?;
-    assert_report(rt, Answer::Usage { number: 18 }, USAGE)?;
-    assert_report(rt, Answer::InputFailed, INPUT_FAILED)?;
-    assert_report(rt, Answer::OutputFailed, OUTPUT_FAILED)
+    assert!(rt; has_report(alloc, window, NO_FAILURE_IN)?);
+    assert!(rt; has_report(alloc, Answer::Usage { number: 18 }, USAGE)?);
+    assert!(rt; has_report(alloc, Answer::InputFailed, INPUT_FAILED)?);
+    assert!(rt; has_report(alloc, Answer::OutputFailed, OUTPUT_FAILED)?);
+    Ok(())
 }
 
 #[test]
 fn refusals_have_these_reports(rt: HostRuntime) -> Result<(), Fail> {
-    let kind = Text::copied(rt.alloc(), b"BadValue")?;
-    assert_report(rt, Answer::Stimulus { line: 500001, kind }, STIMULUS)?;
-    let kind = Text::copied(rt.alloc(), b"WrongVersion")?;
-    assert_report(rt, Answer::Image { line: 1, kind }, IMAGE)?;
-    let name = Text::copied(rt.alloc(), b"a.v")?;
-    assert_report(rt, Answer::FileFailed { name }, FILE_FAILED)?;
-    let name = Text::copied(rt.alloc(), b"b c.v")?;
-    assert_report(rt, Answer::FileTooLong { name }, FILE_TOO_LONG)
+    let alloc: Global = rt.alloc();
+    let kind = Text::copied(alloc, b"BadValue")?;
+    assert!(rt; has_report(alloc, Answer::Stimulus { line: 500001, kind }, STIMULUS)?);
+    let kind = Text::copied(alloc, b"WrongVersion")?;
+    assert!(rt; has_report(alloc, Answer::Image { line: 1, kind }, IMAGE)?);
+    let name = Text::copied(alloc, b"a.v")?;
+    assert!(rt; has_report(alloc, Answer::FileFailed { name }, FILE_FAILED)?);
+    let name = Text::copied(alloc, b"b c.v")?;
+    assert!(rt; has_report(alloc, Answer::FileTooLong { name }, FILE_TOO_LONG)?);
+    Ok(())
 }
 
 #[test]
