@@ -52,14 +52,7 @@ module _ (d : ℕ) (low : d ≤ 200) (p : Place) (ts : List Placed) where
   b_out (concat q no_expr) us z (i, (mid, x, r)) g = absurd x
   b_out (concat q (more_expr e es)) us z (i, (end, (mid, x, y), c)) g = ((e, inl es), (mid, x, (end, y, c)), ap (λ w. concat w (more_expr e es)) i)
   b_out (repeat q n es) us z (i, c) g = ((n, inr es), c, ap (λ w. repeat w n es) i)
-  b_out (read n ss) us z c g = absurd c
-  b_out (call n es) us z c g = absurd c
-  b_out (number q l) us z c g = absurd c
-  b_out (system q f x) us z c g = absurd c
-  b_out (group q x) us z c g = absurd c
-  b_out (unary q op x) us z c g = absurd c
-  b_out (chain e ls) us z c g = absurd c
-  b_out (choose cs e) us z c g = absurd c
+  b_out u us z c g = absurd c
 
   b_starts : (u : Exprs ⊎ Exprs) (a z : List Placed) → B u a z → EndsExpr a
   b_starts (inl no_expr) a z (mid, e, (q, h)) = subst EndsExpr (sym (e ∙ h)) (brace_ends q z)

@@ -119,15 +119,8 @@ module _ (d n : ℕ) where
   linked_same some most (chain e no_link) us z i c = absurd c
   linked_same some most (chain e (more_link op p x ls)) us z i c =
       ((e, more_link op p x ls), subst (λ l. Both (below l) (links_at l) (e, more_link op p x ls) us z) i c, refl)
-  linked_same some most (number p v) us z i c = absurd (omega (arith, i, some))
-  linked_same some most (read v ss) us z i c = absurd (omega (arith, i, some))
-  linked_same some most (call v es) us z i c = absurd (omega (arith, i, some))
-  linked_same some most (system p v e) us z i c = absurd (omega (arith, i, some))
-  linked_same some most (group p e) us z i c = absurd (omega (arith, i, some))
-  linked_same some most (concat p es) us z i c = absurd (omega (arith, i, some))
-  linked_same some most (repeat p v es) us z i c = absurd (omega (arith, i, some))
-  linked_same some most (unary p op e) us z i c = absurd (omega (arith, i, some))
   linked_same some most (choose cs e) us z i c = absurd (omega (arith, i, most))
+  linked_same some most u us z i c = absurd (omega (arith, i, some))
 
   linked_cases : (some : 1 ≤ n) (most : n ≤ 10) (u : Expr) (us z : List Placed) → (level u ≡ n) ⊎ (level u < n) → expr_at u us z
       → (x : Expr × Chained) × L0 x us z × (u ≡ make_linked x)

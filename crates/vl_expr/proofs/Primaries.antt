@@ -265,15 +265,10 @@ module _ (d : ℕ) where
       where
         number_out_at : (u : Expr) → IsHead (k.number v) p u → rest_at u us z → (x : Unit {0}) × Nothing x us z × (u ≡ number p v)
         number_out_at (number q l) h r = let e : l ≡ v = cc in (tt, r, (λ i. number (sym h.1 i) (e i)))
-        number_out_at (read n ss) h r = let e = h.0 in absurd cc
-        number_out_at (call n es) h r = let e = h.0 in absurd cc
-        number_out_at (system q f x) h r = let e = h.0 in absurd cc
-        number_out_at (group q x) h r = let e = h.0 in absurd cc
-        number_out_at (concat q es) h r = let e = h.0 in absurd cc
-        number_out_at (repeat q n es) h r = let e = h.0 in absurd cc
         number_out_at (unary q op x) h r = let e = h.1 in absurd cc
         number_out_at (chain e ls) h r = absurd h
         number_out_at (choose cs e) h r = absurd h
+        number_out_at u h r = let e = h.0 in absurd cc
 
     pub number_took : (v : Literal) → ts ≡ at (k.number v) p ∷ us → Took (below 1) (expr_depths d) (Ends 1) (Ends 1) (number p v) ts us
     number_took v h =
@@ -285,38 +280,20 @@ module _ (d : ℕ) where
     named_into : (t : List ℕ) (u : Expr) (us z : List Placed) → named_at t p u us z → below 1 u (at (k.name t) p ∷ us) z
     named_into t (read n ss) us z c = (omega arith, (us, (λ i. at (k.name (sym c.0.0 i)) (sym c.0.1 i) ∷ us), c.1))
     named_into t (call n es) us z c = (omega arith, (us, (λ i. at (k.name (sym c.0.0 i)) (sym c.0.1 i) ∷ us), c.1))
-    named_into t (number q l) us z c = absurd c
-    named_into t (system q f x) us z c = absurd c
-    named_into t (group q x) us z c = absurd c
-    named_into t (concat q es) us z c = absurd c
-    named_into t (repeat q n es) us z c = absurd c
-    named_into t (unary q op x) us z c = absurd c
-    named_into t (chain e ls) us z c = absurd c
-    named_into t (choose cs e) us z c = absurd c
+    named_into t u us z c = absurd c
 
     named_depth : (t : List ℕ) (u : Expr) (us z : List Placed) → named_at t p u us z → expr_depths d u ≡ d ∷ named_depths d u
     named_depth t (read n ss) us z c = refl
     named_depth t (call n es) us z c = refl
-    named_depth t (number q l) us z c = absurd c
-    named_depth t (system q f x) us z c = absurd c
-    named_depth t (group q x) us z c = absurd c
-    named_depth t (concat q es) us z c = absurd c
-    named_depth t (repeat q n es) us z c = absurd c
-    named_depth t (unary q op x) us z c = absurd c
-    named_depth t (chain e ls) us z c = absurd c
-    named_depth t (choose cs e) us z c = absurd c
+    named_depth t u us z c = absurd c
 
     named_out_at : (t : List ℕ) (u : Expr) (us z : List Placed) → IsHead (k.name t) p u → rest_at u us z → named_at t p u us z
     named_out_at t (read n ss) us z h r = let e : n.text ≡ t = cc in ((e, sym h.1), r)
     named_out_at t (call n es) us z h r = let e : n.text ≡ t = cc in ((e, sym h.1), r)
-    named_out_at t (number q l) us z h r = let e = h.0 in absurd cc
-    named_out_at t (system q f x) us z h r = let e = h.0 in absurd cc
-    named_out_at t (group q x) us z h r = let e = h.0 in absurd cc
-    named_out_at t (concat q es) us z h r = let e = h.0 in absurd cc
-    named_out_at t (repeat q n es) us z h r = let e = h.0 in absurd cc
     named_out_at t (unary q op x) us z h r = let e = h.1 in absurd cc
     named_out_at t (chain e ls) us z h r = absurd h
     named_out_at t (choose cs e) us z h r = absurd h
+    named_out_at t u us z h r = let e = h.0 in absurd cc
 
     pub named_part : (t : List ℕ) → ts ≡ at (k.name t) p ∷ us
         → Leads (named_at t p) (named_depths d) (Ends 1) (Ends 1) us (below 1) (expr_depths d) (Ends 1) (Ends 1) ts (λ u. u)
@@ -354,15 +331,10 @@ module _ (d : ℕ) where
     system_out_at f (system q v x) us z h r =
         let e : system_name v ≡ system_name f = cc in
         ((tt, (x, tt)), r, (λ i. system (sym h.1 i) (same_function v f e i) x))
-    system_out_at f (read n ss) us z h r = let e = h.0 in absurd cc
-    system_out_at f (call n es) us z h r = let e = h.0 in absurd cc
-    system_out_at f (number q l) us z h r = let e = h.0 in absurd cc
-    system_out_at f (group q x) us z h r = let e = h.0 in absurd cc
-    system_out_at f (concat q es) us z h r = let e = h.0 in absurd cc
-    system_out_at f (repeat q n es) us z h r = let e = h.0 in absurd cc
     system_out_at f (unary q op x) us z h r = let e = h.1 in absurd cc
     system_out_at f (chain e ls) us z h r = absurd h
     system_out_at f (choose cs e) us z h r = absurd h
+    system_out_at f u us z h r = let e = h.0 in absurd cc
 
     module _ (f : SystemFunction) (h : ts ≡ at (k.system (system_name f)) p ∷ us) where
       abbrev system_part : Leads Y0 Y0D Any Any us (below 1) (expr_depths d) (Ends 1) (Ends 1) ts (λ x. system p f x.1.0)
@@ -405,15 +377,10 @@ module _ (d : ℕ) where
     group_out_at : (u : Expr) (us z : List Placed) → IsHead (k.mark m.OpenParen) p u → rest_at u us z
         → (x : Expr × Unit {0}) × Y1 x us z × (u ≡ group p x.0)
     group_out_at (group q x) us z h r = ((x, tt), r, ap (λ w. group w x) (sym h.1))
-    group_out_at (system q v x) us z h r = let e = h.0 in absurd cc
-    group_out_at (read n ss) us z h r = let e = h.0 in absurd cc
-    group_out_at (call n es) us z h r = let e = h.0 in absurd cc
-    group_out_at (number q l) us z h r = let e = h.0 in absurd cc
-    group_out_at (concat q es) us z h r = let e = h.0 in absurd cc
-    group_out_at (repeat q n es) us z h r = let e = h.0 in absurd cc
     group_out_at (unary q op x) us z (b, e, s, w) r = absurd (not_paren b op s e)
     group_out_at (chain e ls) us z h r = absurd h
     group_out_at (choose cs e) us z h r = absurd h
+    group_out_at u us z h r = let e = h.0 in absurd cc
 
     module _ (h : ts ≡ at (k.mark m.OpenParen) p ∷ us) where
       abbrev group_part : Leads Y1 Y1D Any Any us (below 1) (expr_depths d) (Ends 1) (Ends 1) ts (λ x. group p x.0)
@@ -446,38 +413,20 @@ module _ (d : ℕ) where
     braces_into : (u : Expr) (us z : List Placed) → braces_at p u us z → below 1 u (at (k.mark m.OpenBrace) p ∷ us) z
     braces_into (concat q es) us z c = (omega arith, (us, (λ i. at (k.mark m.OpenBrace) (sym c.0 i) ∷ us), c.1))
     braces_into (repeat q n es) us z c = (omega arith, (us, (λ i. at (k.mark m.OpenBrace) (sym c.0 i) ∷ us), c.1))
-    braces_into (read n ss) us z c = absurd c
-    braces_into (call n es) us z c = absurd c
-    braces_into (number q l) us z c = absurd c
-    braces_into (system q f x) us z c = absurd c
-    braces_into (group q x) us z c = absurd c
-    braces_into (unary q op x) us z c = absurd c
-    braces_into (chain e ls) us z c = absurd c
-    braces_into (choose cs e) us z c = absurd c
+    braces_into u us z c = absurd c
 
     braces_depth : (u : Expr) (us z : List Placed) → braces_at p u us z → expr_depths d u ≡ d ∷ braces_depths d u
     braces_depth (concat q es) us z c = refl
     braces_depth (repeat q n es) us z c = refl
-    braces_depth (read n ss) us z c = absurd c
-    braces_depth (call n es) us z c = absurd c
-    braces_depth (number q l) us z c = absurd c
-    braces_depth (system q f x) us z c = absurd c
-    braces_depth (group q x) us z c = absurd c
-    braces_depth (unary q op x) us z c = absurd c
-    braces_depth (chain e ls) us z c = absurd c
-    braces_depth (choose cs e) us z c = absurd c
+    braces_depth u us z c = absurd c
 
     braces_out_at : (u : Expr) (us z : List Placed) → IsHead (k.mark m.OpenBrace) p u → rest_at u us z → braces_at p u us z
     braces_out_at (concat q es) us z h r = (sym h.1, r)
     braces_out_at (repeat q n es) us z h r = (sym h.1, r)
-    braces_out_at (read n ss) us z h r = let e = h.0 in absurd cc
-    braces_out_at (call n es) us z h r = let e = h.0 in absurd cc
-    braces_out_at (number q l) us z h r = let e = h.0 in absurd cc
-    braces_out_at (system q f x) us z h r = let e = h.0 in absurd cc
-    braces_out_at (group q x) us z h r = let e = h.0 in absurd cc
     braces_out_at (unary q op x) us z (b, e, s, w) r = absurd (not_brace b op s e)
     braces_out_at (chain e ls) us z h r = absurd h
     braces_out_at (choose cs e) us z h r = absurd h
+    braces_out_at u us z h r = let e = h.0 in absurd cc
 
     pub braces_part : ts ≡ at (k.mark m.OpenBrace) p ∷ us
         → Leads (braces_at p) (braces_depths d) Any Any us (below 1) (expr_depths d) (Ends 1) (Ends 1) ts (λ u. u)
@@ -498,12 +447,9 @@ module _ (d : ℕ) where
     unary_out_at b op s (group q x) us z h r = absurd (not_paren b op s (sym h.0))
     unary_out_at b op s (concat q es) us z h r = absurd (not_brace b op s (sym h.0))
     unary_out_at b op s (repeat q n es) us z h r = absurd (not_brace b op s (sym h.0))
-    unary_out_at b op s (read n ss) us z h r = let e = h.0 in absurd cc
-    unary_out_at b op s (call n es) us z h r = let e = h.0 in absurd cc
-    unary_out_at b op s (number q l) us z h r = let e = h.0 in absurd cc
-    unary_out_at b op s (system q f x) us z h r = let e = h.0 in absurd cc
     unary_out_at b op s (chain e ls) us z h r = absurd h
     unary_out_at b op s (choose cs e) us z h r = absurd h
+    unary_out_at b op s u us z h r = let e = h.0 in absurd cc
 
     pub unary_part : (b : Mark) (op : Unary) → unary_of b ≡ Some op → ts ≡ at (k.mark b) p ∷ us
         → Leads (below 1) (expr_depths (d + 1)) (Ends 1) (Ends 1) us (below 1) (expr_depths d) (Ends 1) (Ends 1) ts (λ x. unary p op x)
@@ -538,14 +484,7 @@ module _ (d : ℕ) (low : d ≤ 200) (t : List ℕ) (p : Place) (ts : List Place
         let j : mid ≡ us = cc in
         ((es, tt), subst (λ w. A0 (es, tt) w z) j r, ap (λ w. call w es) (same_name n this_name e f))
     call_out (read n ss) us z (i, c) g = absurd (selects_first ss q us z c g)
-    call_out (number o l) us z c g = absurd c
-    call_out (system o f x) us z c g = absurd c
-    call_out (group o x) us z c g = absurd c
-    call_out (concat o es) us z c g = absurd c
-    call_out (repeat o n es) us z c g = absurd c
-    call_out (unary o op x) us z c g = absurd c
-    call_out (chain e ls) us z c g = absurd c
-    call_out (choose cs e) us z c g = absurd c
+    call_out u us z c g = absurd c
 
     abbrev call_part : Leads A0 A0D (Ends 1) (Ends 1) us (named_at t p) (named_depths d) (Ends 1) (Ends 1) ts (λ x. call this_name x.0)
     call_part =
@@ -575,14 +514,7 @@ module _ (d : ℕ) (low : d ≤ 200) (t : List ℕ) (p : Place) (ts : List Place
       → (x : Selects) × selects_at x us z × (u ≡ read this_name x)
   read_out (read n ss) us z o ((e, f), c) g = (ss, c, ap (λ w. read w ss) (same_name n this_name e f))
   read_out (call n es) us z o (i, (mid, (q, h), r)) g = absurd ((subst (Not (k.mark m.OpenParen)) h o) refl)
-  read_out (number q l) us z o c g = absurd c
-  read_out (system q f x) us z o c g = absurd c
-  read_out (group q x) us z o c g = absurd c
-  read_out (concat q es) us z o c g = absurd c
-  read_out (repeat q n es) us z o c g = absurd c
-  read_out (unary q op x) us z o c g = absurd c
-  read_out (chain e ls) us z o c g = absurd c
-  read_out (choose cs e) us z o c g = absurd c
+  read_out u us z o c g = absurd c
 
   not_first : Not (k.mark m.OpenParen) ts → (a : Placed) (after : List Placed) → ts ≡ a ∷ after → (y : List Placed) → Not (k.mark m.OpenParen) (a ∷ y)
   not_first n a after e y = subst (Not (k.mark m.OpenParen)) e n

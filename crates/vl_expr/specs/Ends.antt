@@ -53,6 +53,11 @@ abbrev pub NotAt : ℕ → List Placed → Type 0
 NotAt n [] = Unit {0}
 NotAt n (a ∷ rest) = next_level (kind_of a) ≡ n → ⊥
 
+-- the operator of this level that a mark is, or that it is none
+abbrev pub IsOperator : ℕ → Mark → Option Binary → Type 0
+IsOperator n b (Some op) = (binary_of b ≡ Some op) × (binary_level op ≡ n)
+IsOperator n b None = mark_level b ≡ n → ⊥
+
 -- the operator of this level that comes first, its place and the tokens after it, or that none comes
 abbrev pub FindsOperator : ℕ → List Placed → Option (Binary × place_code.Place × List Placed) → Type 0
 FindsOperator n ts (Some x) = (b : Mark) × (binary_of b ≡ Some x.0) × (binary_level x.0 ≡ n)

@@ -1,5 +1,5 @@
 -- What an expression begins with (IEEE 1364-2005, A.8.4, cut down).
-use Rattle.std.specs.Prelude.{◌≡◌, Bool, true, false, Some}
+use Rattle.std.specs.Prelude.{◌≡◌, Bool, true, false, Option, Some, None}
 use Rattle.vl_tree.specs.declared.token.Mark.{Mark}
 use Rattle.vl_tree.specs.declared.token.Mark.TheVariants as m
 use Rattle.vl_tree.specs.declared.token.System.{System}
@@ -51,3 +51,8 @@ starts (k.system s) = system_starts s
 starts (k.mark a) = mark_starts a
 starts (k.str s) = false
 starts (k.key w) = false
+
+-- what a token of this kind begins, or that no expression begins with it
+abbrev pub BeginsWith : Kind → Option Start → Type 0
+BeginsWith a (Some s) = IsStart a s
+BeginsWith a None = starts a ≡ false

@@ -5,10 +5,11 @@ ghost use Rattle.vl_tree.specs.Token as k;
 ghost use Rattle.vl_tree.specs.declared.token.Mark.TheVariants as m;
 ghost use Rattle.vl_tree.specs.SyntaxView as view;
 ghost use Rattle.vl_tree.specs.Expressions as g;
-ghost use Rattle.vl_tree.specs.Depth as depth_of;
+ghost use Rattle.vl_tree.specs.Depth.{expr_depths, exprs_depths, select_depths};
 ghost use Rattle.vl_read.specs.Reading.{Reads, Any};
 ghost use Rattle.vl_read.specs.Tokens.{Not};
 ghost use Rattle.vl_expr.specs.Ends.{Ends, EndsExpr, EndsList, EndsSelect};
+ghost use Rattle.vl_expr.specs.Readers.{ReadsNamed, ReadsMore, ReadsSelects};
 ghost use Rattle.vl_expr.specs.Lists as list;
 
 use crate::operators::{Separator, Start, find_operator, find_separator, start_of};
@@ -27,7 +28,7 @@ use vl_tree::token::Mark;
 #[cycle(expression)]
 pub fn read_expr<'a>(alloc: Global, at: Cursor<'a>, depth: u32) -> Result<(Expr, Cursor<'a>), Fault>
     requires low { depth ≤ 201 }
-    ensures reads { Reads view.expr g.expr_at (depth_of.expr_depths depth) EndsExpr EndsExpr at.entry result }
+    ensures reads { Reads view.expr g.expr_at (expr_depths depth) EndsExpr EndsExpr at.entry result }
     ensures shorter { IfOk result (λ x. length x.1 < length at.entry) }
     ensures shallow { IfOk result (λ x. depth ≤ 200) }
 {
@@ -65,7 +66,7 @@ fn read_chain<'a>(
     requires some { 1 ≤ limit }
     requires most { limit ≤ 11 }
     requires low { depth ≤ 201 }
-    ensures reads { Reads view.expr (g.below limit) (depth_of.expr_depths depth) (Ends limit) (Ends limit) at.entry result }
+    ensures reads { Reads view.expr (g.below limit) (expr_depths depth) (Ends limit) (Ends limit) at.entry result }
     ensures shorter { IfOk result (λ x. length x.1 < length at.entry) }
     ensures shallow { IfOk result (λ x. depth ≤ 200) }
 {
@@ -93,12 +94,12 @@ fn read_chain<'a>(
     }
 }
 
-// A number, a name with selects or arguments, a function of the language, an expression in parentheses or braces, or an operator with
-// its operand.
+// A number, a name with selects or arguments, a function of the language, an expression in parentheses or braces, or an
+// operator with its operand.
 #[cycle(expression)]
 fn read_primary<'a>(alloc: Global, at: Cursor<'a>, depth: u32) -> Result<(Expr, Cursor<'a>), Fault>
     requires low { depth ≤ 201 }
-    ensures reads { Reads view.expr (g.below 1) (depth_of.expr_depths depth) (Ends 1) (Ends 1) at.entry result }
+    ensures reads { Reads view.expr (g.below 1) (expr_depths depth) (Ends 1) (Ends 1) at.entry result }
     ensures shorter { IfOk result (λ x. length x.1 < length at.entry) }
     ensures shallow { IfOk result (λ x. depth ≤ 200) }
 {
@@ -146,7 +147,7 @@ fn read_named<'a>(
     place: Place,
 ) -> Result<(Expr, Cursor<'a>), Fault>
     requires low { depth ≤ 200 }
-    ensures reads { Reads view.expr (list.named_at text.now (view.place place)) (list.named_depths depth) (Ends 1) (Ends 1) at.entry result }
+    ensures reads { ReadsNamed text.now (view.place place) depth at.entry result }
     ensures shorter { IfOk result (λ x. length x.1 ≤ length at.entry) }
 {
     let text = Text::copied(alloc, text.bytes())?;
@@ -201,7 +202,7 @@ pub fn read_list<'a>(
     depth: u32,
 ) -> Result<(Items<Expr>, Cursor<'a>), Fault>
     requires low { depth ≤ 201 }
-    ensures reads { Reads list.exprs_of g.exprs_at (depth_of.exprs_depths depth) EndsList EndsList at.entry result }
+    ensures reads { Reads list.exprs_of g.exprs_at (exprs_depths depth) EndsList EndsList at.entry result }
     ensures shorter { IfOk result (λ x. length x.1 < length at.entry) }
     ensures shallow { IfOk result (λ x. depth ≤ 200) }
 {
@@ -218,7 +219,7 @@ pub fn read_more<'a>(
     first: Expr,
 ) -> Result<(Items<Expr>, Cursor<'a>), Fault>
     requires low { depth ≤ 200 }
-    ensures reads { Reads list.exprs_of (list.list_after (view.expr first)) (list.list_after_depths depth) EndsList EndsList at.entry result }
+    ensures reads { ReadsMore (view.expr first) depth at.entry result }
     ensures shorter { IfOk result (λ x. length x.1 ≤ length at.entry) }
 {
     let mut all = Items::new(alloc);
@@ -244,7 +245,7 @@ pub fn read_selects<'a>(
     depth: u32,
 ) -> Result<(Items<Selected<Expr>>, Cursor<'a>), Fault>
     requires low { depth ≤ 200 }
-    ensures reads { Reads view.read_selects g.selects_at (depth_of.selects_depths depth) (Not (k.mark m.OpenBracket)) (Not (k.mark m.OpenBracket)) at.entry result }
+    ensures reads { ReadsSelects depth at.entry result }
     ensures shorter { IfOk result (λ x. length x.1 ≤ length at.entry) }
 {
     let mut selects = Items::new(alloc);
@@ -270,7 +271,7 @@ fn read_select<'a>(
     depth: u32,
 ) -> Result<(Select<Expr>, Cursor<'a>), Fault>
     requires low { depth ≤ 201 }
-    ensures reads { Reads view.read_select g.select_at (depth_of.select_depths depth) EndsSelect EndsSelect at.entry result }
+    ensures reads { Reads view.read_select g.select_at (select_depths depth) EndsSelect EndsSelect at.entry result }
     ensures shorter { IfOk result (λ x. length x.1 < length at.entry) }
 {
     let (first, rest) = read_expr(alloc, at, depth)?;

@@ -4,8 +4,8 @@ ghost use Rattle.std.specs.Prelude.{◌≡◌, ◌∷◌, ◌<◌, ◌≤◌, So
 ghost use Rattle.vl_tree.specs.Token.{coded_kind};
 ghost use Rattle.vl_tree.specs.Token as k;
 ghost use Rattle.vl_tree.specs.Expressions as grammar;
-ghost use Rattle.vl_expr.specs.Starts.{IsStart, starts, mark_starts, system_starts};
-ghost use Rattle.vl_expr.specs.Ends.{FindsOperator, FindsSeparator, mark_level};
+ghost use Rattle.vl_expr.specs.Starts.{BeginsWith};
+ghost use Rattle.vl_expr.specs.Ends.{FindsOperator, FindsSeparator, IsOperator};
 
 use bit_ops::{Binary, Unary};
 use dt_core::place::Place;
@@ -106,7 +106,7 @@ fn level(operator: Binary) -> u32
 
 // What a mark begins.
 fn mark_start<'a>(mark: Mark) -> Option<Start<'a>>
-    ensures { MatchOption result (mark_starts mark ≡ false) (λ s. IsStart (k.mark mark) s) }
+    ensures { BeginsWith (k.mark mark) result }
 {
     match mark {
         Mark::OpenParen => Some(Start::Paren),
@@ -120,7 +120,7 @@ fn mark_start<'a>(mark: Mark) -> Option<Start<'a>>
 
 // What a system name begins.
 fn system_start<'a>(system: System) -> Option<Start<'a>>
-    ensures { MatchOption result (system_starts system ≡ false) (λ s. IsStart (k.system system) s) }
+    ensures { BeginsWith (k.system system) result }
 {
     match system {
         System::Signed => Some(Start::System(SystemFunction::ToSigned)),
@@ -132,7 +132,7 @@ fn system_start<'a>(system: System) -> Option<Start<'a>>
 
 /// What a token begins, if an expression begins with it.
 pub fn start_of(token: &Token) -> Option<Start<'_>>
-    ensures { MatchOption result (starts (coded_kind token.now.kind) ≡ false) (λ s. IsStart (coded_kind token.now.kind) s) }
+    ensures { BeginsWith (coded_kind token.now.kind) result }
 {
     match &token.kind {
         TokenKind::Number(literal) => Some(Start::Number(*literal)),
@@ -146,7 +146,7 @@ pub fn start_of(token: &Token) -> Option<Start<'_>>
 // The operator of this level that a mark is.
 fn operator_of_level(mark: Mark, wanted: u32) -> Option<Binary>
     requires { (1 ≤ wanted) × (wanted ≤ 10) }
-    ensures { MatchOption result (mark_level mark ≡ wanted → ⊥) (λ op. (grammar.binary_of mark ≡ Some op) × (grammar.binary_level op ≡ wanted)) }
+    ensures { IsOperator wanted mark result }
 {
     match binary_of(mark) {
         Some(operator) => {

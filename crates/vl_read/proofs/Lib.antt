@@ -3,3 +3,4 @@ pub mod Fails
 pub mod Places
 pub mod Leads
 pub mod TokenRules
+pub mod CommaRules

@@ -1,9 +1,10 @@
 //! A place in a list of tokens, and the single tokens there.
 
-ghost use Rattle.std.specs.Prelude.{◌≡◌, ◌∷◌, [], ◌↔◌, ◌<◌, ◌+◌, ◌-◌, ◌^◌, IsTrue, IfOk, IfSome, MatchOption, ◌≤◌, drop, length};
+ghost use Rattle.std.specs.Prelude.{◌≡◌, ◌∷◌, [], ◌↔◌, ◌<◌, ◌≤◌, ◌-◌, ◌^◌, drop, length};
+ghost use Rattle.std.specs.Prelude.{IsTrue, IfOk, IfSome, MatchOption};
 ghost use Rattle.vl_tree.specs.Token as k;
 ghost use Rattle.vl_tree.specs.Token.{all_coded, coded_kind};
-ghost use Rattle.vl_tree.specs.SyntaxView as view;
+ghost use Rattle.vl_tree.specs.SyntaxView.{place};
 ghost use Rattle.vl_tree.specs.Placed.{placed, at};
 ghost use Rattle.vl_read.specs.Tokens.{Finds, Expects, Passes, ExpectsName};
 
@@ -65,7 +66,7 @@ impl<'a> Cursor<'a> {
 
     /// The first token, its place, and the tokens after it.
     pub fn next(&self) -> Option<(&'a Token, Place, Cursor<'a>)>
-        ensures { MatchOption result (self.now ≡ []) (λ x. self.now ≡ at (coded_kind x.0.now.kind) (view.place x.1) ∷ x.2) }
+        ensures { MatchOption result (self.now ≡ []) (λ x. self.now ≡ at (coded_kind x.0.now.kind) (place x.1) ∷ x.2) }
     {
         let (token, rest) = self.tokens.split_first()?;
         let place = Place {

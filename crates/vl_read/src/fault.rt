@@ -20,8 +20,8 @@ pub enum Fault {
 /// Why a list of tokens is refused.
 #[derive(Clone, Copy, Debug, PartialEq, Eq)]
 pub enum SynFault {
-    /// The token of this number is the least such that no text goes on with the tokens up to it; where only the end is bad, it is the
-    /// number of the tokens.
+    /// The token of this number is the least such that no text goes on with the tokens up to it; where only the end is
+    /// bad, it is the number of the tokens.
     At { token: u32 },
     /// The token of this number is the first that is deeper than 200.
     Deep { token: u32 },

@@ -81,7 +81,7 @@ binary_level two.Or = 8
 binary_level two.LogicAnd = 9
 binary_level two.LogicOr = 10
 
--- the system name of a function (17.8)
+-- the system name of a function (17.8, 17.11.1)
 abbrev pub system_name : SystemFunction → System
 system_name to_signed = s.Signed
 system_name to_unsigned = s.Unsigned

@@ -1,4 +1,4 @@
--- The grammar of statements (IEEE 1364-2005, A.6.2 to A.6.9, cut down to the profile; system tasks 17.1 and 17.4).
+-- The grammar of statements (IEEE 1364-2005, A.6.2 to A.6.9, cut down to the profile; system tasks 17.1, 17.2 and 17.4).
 use Rattle.std.specs.Prelude.{◌≡◌, Bool, true, false, IsTrue, List, [], ◌∷◌, Option}
 use Rattle.vl_tree.specs.declared.token.Key.{Key}
 use Rattle.vl_tree.specs.declared.token.Key.TheVariants as w

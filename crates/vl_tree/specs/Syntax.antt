@@ -18,7 +18,7 @@ pub record Name : Type 0 where
 
 -- ---- expressions
 
--- $signed, $unsigned and $clog2 (A.8.2, 17.8)
+-- $signed, $unsigned and $clog2 (A.8.2, 17.8, 17.11.1)
 pub data SystemFunction : Type 0 where
   to_signed : SystemFunction
   to_unsigned : SystemFunction
@@ -62,7 +62,7 @@ mutual
     no_choice : Choices
     more_choice : Expr → Place → Expr → Choices → Choices
 
-  -- selects, outermost first, each with the place of its `[`
+  -- selects, from left to right, each with the place of its `[`
   pub data Selects : Type 0 where
     no_select : Selects
     more_select : Place → Select → Selects → Selects

@@ -13,7 +13,7 @@ pub struct Name {
     pub place: Place,
 }
 
-/// A function of the language (17.8).
+/// A function of the language (17.8, 17.11.1).
 #[derive(Clone, Copy, Debug, PartialEq, Eq)]
 pub enum SystemFunction {
     /// `$signed`
@@ -64,7 +64,7 @@ pub struct Selected<E> {
 #[derive(Drop)]
 pub enum Expr {
     Number(Place, Literal),
-    /// A name with its selects, outermost first.
+    /// A name with its selects, from left to right.
     Read(Name, Items<Selected<Expr>>),
     /// A function's name and its arguments, one at least.
     Call(Name, Items<Expr>),

@@ -1,4 +1,5 @@
-//! Modules and their items, of the whole language. Each place is that of the node's first token, where nothing else is said.
+//! Modules and their items, of the whole language. Each place is that of the node's first token, where nothing else is
+//! said.
 
 use crate::expression::{Expr, Name, Range};
 use crate::statement::{Loop, Stmt, Target};
@@ -212,7 +213,8 @@ pub enum Item {
     GenerateIf(Items<GenerateBranch<Item>>, Option<GenerateBlock<Item>>),
 }
 
-/// A module (A.1.2): its name, the parameters of its `#(..)`, none where it has none, the ports of its `(..)` if it has one, its items.
+/// A module (A.1.2): its name, the parameters of its `#(..)`, none where it has none, the ports of its `(..)` if it has
+/// one, its items.
 #[derive(Drop)]
 pub struct Module {
     pub place: Place,

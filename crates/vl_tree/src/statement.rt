@@ -8,7 +8,7 @@ use sqlite_items::{Boxed, Items};
 /// What an assignment writes (IEEE 1364-2005, A.8.5).
 #[derive(Drop)]
 pub enum Target {
-    /// A name with its selects, outermost first.
+    /// A name with its selects, from left to right.
     Name(Name, Items<Selected<Expr>>),
     /// `{a, b}`, one at least.
     Targets(Place, Items<Target>),

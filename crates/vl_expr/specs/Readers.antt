@@ -1,0 +1,29 @@
+-- What the readers of parts of an expression answer. This project's own.
+use Rattle.std.specs.Prelude.{ℕ, List, Result}
+use Rattle.vl_tree.specs.declared.token.Mark.TheVariants as m
+use Rattle.vl_tree.specs.declared.expression.Expr as code
+use Rattle.vl_tree.specs.declared.expression.Selected.{Selected}
+use Rattle.vl_tree.specs.Token as k
+use Rattle.vl_tree.specs.Syntax.{Place, Expr}
+use Rattle.vl_tree.specs.SyntaxView.{expr, read_selects}
+use Rattle.vl_tree.specs.Placed.{Placed}
+use Rattle.vl_tree.specs.Expressions.{selects_at}
+use Rattle.vl_tree.specs.Depth.{selects_depths}
+use Rattle.vl_read.specs.declared.fault.Fault.{Fault}
+use Rattle.vl_read.specs.Reading.{Reads}
+use Rattle.vl_read.specs.Tokens.{Not}
+use Rattle.vl_expr.specs.Ends.{Ends, EndsList}
+use Rattle.vl_expr.specs.Lists.{exprs_of, list_after, list_after_depths, named_at, named_depths}
+
+-- the expression of this name at this place, from after the name on, with selects or arguments
+abbrev pub ReadsNamed : List ℕ → Place → ℕ → List Placed → Result (code.Expr × List Placed) Fault → Type 0
+ReadsNamed t p d ts r = Reads expr (named_at t p) (named_depths d) (Ends 1) (Ends 1) ts r
+
+-- the list that begins with this expression, from after it on
+abbrev pub ReadsMore : Expr → ℕ → List Placed → Result (List code.Expr × List Placed) Fault → Type 0
+ReadsMore e d ts r = Reads exprs_of (list_after e) (list_after_depths d) EndsList EndsList ts r
+
+-- selects, after which no other comes
+abbrev pub ReadsSelects : ℕ → List Placed → Result (List (Selected code.Expr) × List Placed) Fault → Type 0
+ReadsSelects d ts r =
+    Reads read_selects selects_at (selects_depths d) (Not (k.mark m.OpenBracket)) (Not (k.mark m.OpenBracket)) ts r
