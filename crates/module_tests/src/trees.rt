@@ -1,10 +1,11 @@
 //! Token lists from words, and what is read of them: the counter's tree, a table of bodies and one of whole designs, depth, a long chain.
 
 use dt_core::text::Text;
+use std::alloc::Global;
 use std::test::Fail;
 use vl_module::{SynFault, parse_module};
 use vl_tree::expr::{Binary, Expr, Primary};
-use vl_tree::token::{Key, Literal, Mark, System, TokenKind};
+use vl_tree::token::{Key, Literal, Mark, System, Token, TokenKind};
 use vl_tree::tree::{Branch, Port, Stmt};
 
 const KEYS: [(&str, Key); 11] = [
