@@ -5,6 +5,7 @@ use Rattle.std.specs.Io.KnownBytes.{Consumes, IsAtEnd}
 use Rattle.vl_tree.specs.Tree.{Module}
 use Rattle.vl_meaning.specs.Objects.{data_inputs}
 use Rattle.vl_front.specs.OneModule.{IsOneModule}
+use Rattle.vl_front.proofs.Exclusive.{no_fault}
 use Rattle.stim.specs.Stimulus.{IsStimulus}
 use Rattle.dt_io.specs.Files.{IsLong}
 use Rattle.dt_core.specs.declared.limits.TheConstants.{MAX_FILE}
@@ -70,8 +71,7 @@ module _ (words : List (List ℕ)) (old new : Outside) (w : AllWell words old ne
   the_top j files d e l a = sym (a.is_design.only w.the_module (is_module j files e l))
 
   no_refusal : (j : Job) (files : List (List ℕ)) (h : List ℕ) → words_of words ≡ allowed j → Loaded old.files j.files files → AreRefused j files h → ⊥
-  no_refusal j files h e l (inl f) =
-      let i = is_module j files e l in let s : Ok i.tokens ≡ Err f.0 = sym i.is_spelled ∙ f.1 in absurd cc
+  no_refusal j files h e l (inl f) = no_fault (design_text files) w.the_module f.0 (is_module j files e l) f.1
   no_refusal j files h e l (inr n) = n.0.none w.the_module (is_module j files e l)
 
   -- the stimulus isn't refused

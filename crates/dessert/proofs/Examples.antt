@@ -6,6 +6,7 @@ use Rattle.flat_ir.specs.Names.{Fit}
 use Rattle.vl_tree.specs.Tree.{input, stop, no_stmt, more_stmt, Module}
 use Rattle.vl_tree.proofs.Counter.{counter}
 use Rattle.vl_tree.proofs.GrammarExamples.{counter_tokens, counter_derives}
+use Rattle.vl_tree.proofs.CounterSource.{counter_source, counter_is_source}
 use Rattle.vl_tree.specs.declared.fault.FaultKind.TheVariants as k
 use Rattle.vl_front.specs.Spelled.{fault}
 use Rattle.vl_front.specs.OneModule.{IsOneModule}
@@ -111,7 +112,7 @@ abbrev counter_file : List ℕ
 counter_file = codes "module cnt(input clk, input rst, input en, output reg [3:0] r);\n  always @(posedge clk) begin\n    if (rst)\n      r <= 4'd0;\n    else if (en)\n      r <= r + 4'd1;\n    if (r == 4'd9) begin\n      $display(\"r hit %0d\", r);\n      $stop;\n    end\n  end\nendmodule\n"
 
 counter_is_read : IsOneModule (design_text (counter_file ∷ [])) counter
-counter_is_read = record { tokens = counter_tokens; is_spelled = refl; derived = counter_derives; sound = refl }
+counter_is_read = record { tokens = counter_tokens; is_spelled = refl; source = (counter_source, counter_is_source); derived = counter_derives; sound = refl }
 
 -- an unknown macro on the first line of the second file
 abbrev bad_macro : List (List ℕ)
@@ -119,12 +120,12 @@ bad_macro = codes "module m;" ∷ codes "wire `FOO;\n" ∷ []
 
 macro_is_unknown : AreRefused (job 64 (codes "a.v" ∷ codes "m.v" ∷ [])) bad_macro (codes "design: m.v:1: UnknownMacro\n")
 unfolding digits
-macro_is_unknown = inl (fault 1 2 k.UnknownMacro, refl, refl)
+macro_is_unknown = inl (fault 1 2 k.UnknownMacro, inl refl, refl)
 
 -- a number of too many bits
 number_is_wide : AreRefused (job 64 (codes "m.v" ∷ [])) (codes "\n129'd1" ∷ []) (codes "design: m.v:2: TooWide\n")
 unfolding digits
-number_is_wide = inl (fault 2 2 k.TooWide, refl, refl)
+number_is_wide = inl (fault 2 2 k.TooWide, inl refl, refl)
 
 -- ---- reports
 

@@ -7,7 +7,8 @@ use Rattle.flat_ir.specs.FlatRun.{Flat}
 use Rattle.flat_ir.specs.Names.{input_names}
 use Rattle.vl_meaning.specs.Objects.{data_inputs}
 use Rattle.vl_tree.specs.declared.fault.FaultKind.{FaultKind}
-use Rattle.vl_front.specs.Spelled.{Fault, spelled}
+use Rattle.vl_front.specs.Spelled.{Fault}
+use Rattle.vl_front.specs.FirstFault.{HasFirst}
 use Rattle.vl_front.specs.OneModule.{IsNoDesign}
 use Rattle.stim.specs.Stimulus.{IsStimulus, Begins, IsWhole}
 use Rattle.stim.specs.declared.reader.StimFault.{StimFault}
@@ -50,15 +51,15 @@ module _ (words : List (List ℕ)) (old new : Outside) (lag : ℕ) (o : Origins)
       → Answers layers words old new memory
   no_memory asked s k r = memory_answers layers words old new (job lag o.names) asked memory refl s k r
 
-  -- the text of the files has a fault of the first two phases
-  pub faulty : (text : List ℕ) (f : Fault) (result : Status) → LedToText words old.files lag o text → spelled text ≡ Err f → Stands layers words old new
+  -- the text of the files has a fault of the first three phases
+  pub faulty : (text : List ℕ) (f : Fault) (result : Status) → LedToText words old.files lag o text → HasFirst text f → Stands layers words old new
       → Keeps old.source.left new.source.left → Keeps old.out.held new.out.held
       → ((files : List (List ℕ)) → o.counts ≡ map line_count files → Reported (fault_text (spot_in (origins_of o.names files) f.line) f.kind) design result old.report new.report)
       → Answers layers words old new result
   faulty text f result led e s left out w =
       let l = led.is_loaded in
       reported_answers layers words old new (job lag o.names) led.asked design (fault_text (spot_in (origins_of o.names l.files) f.line) f.kind) result
-      (refl, record { job = job lag o.names; files = l.files; words_are = led.asked; loaded = l.loaded; refused = inl (f, ap spelled (sym l.text_is) ∙ e, refl); untaken = left })
+      (refl, record { job = job lag o.names; files = l.files; words_are = led.asked; loaded = l.loaded; refused = inl (f, subst (λ x. HasFirst x f) l.text_is e, refl); untaken = left })
       s out (w l.files l.counts_are)
 
   -- the text of the files is no design

@@ -5,7 +5,8 @@ use Rattle.vl_tree.specs.Tree.{Module}
 use Rattle.vl_meaning.specs.Objects.{data_inputs}
 use Rattle.vl_meaning.specs.Run.{fires, first_failure}
 use Rattle.vl_meaning.specs.Shown.{scope_of, shown_at}
-use Rattle.vl_front.specs.Spelled.{Fault, spelled}
+use Rattle.vl_front.specs.Spelled.{Fault}
+use Rattle.vl_front.specs.FirstFault.{HasFirst}
 use Rattle.vl_front.specs.OneModule.{IsDesign, IsNoDesign}
 use Rattle.stim.specs.Stimulus.{IsStimulus, Begins, IsWhole}
 use Rattle.vcd_text.specs.Vcd.{vcd_text}
@@ -26,10 +27,10 @@ pub record AreDesign (j : Job) (files : List (List ℕ)) (d : Design) : Type 0 w
   pub is_design : IsDesign (design_text files) d.top
   pub origins : d.origins ≡ origins_of j.files files
 
--- the report of files that are no design: their text has a fault of the first two phases, or it is no module's
+-- the report of files that are no design: their text has a fault of the first three phases, or it is no module's
 abbrev pub AreRefused : Job → List (List ℕ) → List ℕ → Type 0
 AreRefused j files report =
-    ((f : Fault) × (spelled (design_text files) ≡ Err f) × (report ≡ fault_text (spot_in (origins_of j.files files) f.line) f.kind))
+    ((f : Fault) × HasFirst (design_text files) f × (report ≡ fault_text (spot_in (origins_of j.files files) f.line) f.kind))
     ⊎ (IsNoDesign (design_text files) × (report ≡ not_built_text))
 
 -- ---- the run

@@ -38,7 +38,7 @@ fn with_body(alloc: Global, body: &[u8]) -> Result<Vec<u8>, Fail> {
     Ok(text)
 }
 
-const STATEMENTS: [(&[u8], bool); 19] = [
+static STATEMENTS: [(&[u8], bool); 19] = [
     (b"r <= 4'd16;", true),
     (b"r <= 4'sd8 + r;", true),
     (b"r <= 4'b1z0x;", true),
@@ -72,8 +72,8 @@ fn statements_at_each_edge(rt: HostRuntime) -> Result<(), Fail> {
     Ok(())
 }
 
-// Texts with a fault of the first two phases; each begins on line 1.
-const FAULTS: [(&[u8], u8, u32, FaultKind); 12] = [
+/// Texts with a fault of the first three phases; each begins on line 1.
+static FAULTS: [(&[u8], u8, u32, FaultKind); 19] = [
     (b"wire `FOO;\n", 1, 1, FaultKind::UnknownMacro),
     (b"`ifdef A\n`else\n", 1, 1, FaultKind::Unbalanced),
     (b"\n\n`include \"a.v\"\n", 1, 3, FaultKind::BadDirective),
@@ -86,6 +86,13 @@ const FAULTS: [(&[u8], u8, u32, FaultKind); 12] = [
     (b"x\n\"open", 2, 2, FaultKind::OpenString),
     (b"(* open\n", 2, 1, FaultKind::BadToken),
     (b"0'd1 `FOO", 1, 1, FaultKind::UnknownMacro),
+    (b"endmodule", 3, 1, FaultKind::Syntax),
+    (b"module m;\n\nendmodule\n;", 3, 4, FaultKind::Syntax),
+    (b"module m;\nwire\n\n", 3, 2, FaultKind::Syntax),
+    (b"module m(input c);\nalways @(posedge c)\nbegin end\n", 3, 3, FaultKind::Syntax),
+    (b"module m;\nwire a = \n(1;\nwire b = 129'd1; endmodule", 2, 4, FaultKind::TooWide),
+    (b"module m;\nassign a = b\n<= c;\nassign d = e +\n; endmodule", 3, 5, FaultKind::Syntax),
+    (b"module m; initial a = b\n= c; endmodule", 3, 2, FaultKind::Syntax),
 ];
 
 #[test]
@@ -101,8 +108,8 @@ fn the_first_fault_has_its_line(rt: HostRuntime) -> Result<(), Fail> {
     Ok(())
 }
 
-// Texts without a fault of these phases.
-const TEXTS: [(&[u8], bool); 12] = [
+/// Texts without a fault of these phases.
+static TEXTS: [(&[u8], bool); 13] = [
     (
         b"module m(input c); always @(posedge c) begin end endmodule",
         true,
@@ -139,8 +146,9 @@ const TEXTS: [(&[u8], bool); 12] = [
         b"module m(input c, input r); always @(posedge c or posedge r) begin end endmodule",
         false,
     ),
-    (b"module m(input c); always @(posedge c) begin end", false),
     (b"module m; endmodule", false),
+    (b"module m; wire [7:0] a = b ? c : d; endmodule module n; endmodule", false),
+    (b"module m(input c); always @(posedge c) if (c) ; else begin : x end endmodule", false),
     (b"", false),
 ];
 

@@ -1,6 +1,14 @@
 -- From what the readers of tokens and trees answer to what stands of the text.
-use Rattle.std.proofs.Common.{◌≡◌, ℕ, true, false, List, Ok, Err, sym, ap, subst, ◌∙◌}
-use Rattle.vl_tree.specs.Token.{Tokens}
+use Rattle.std.proofs.Common.{◌≡◌, ◌-◌, ◌<◌, ◌≤◌, ℕ, zero, suc, true, false, List, [], ◌∷◌, length, map, get_or, arith, Ok, Err, inl, inr, refl, sym, ap, subst, ◌∙◌}
+use Rattle.std.specs.Prelude.{Option, Some, None, min, slice_get, ◌⊎◌}
+use Rattle.std.specs.Option.{option_map}
+use Rattle.std.proofs.lemmas.List.{length-map}
+use Rattle.std.proofs.lemmas.Option.{slice_get-map}
+use Rattle.vl_read.specs.declared.fault.SynFault as source
+use Rattle.vl_read.specs.declared.fault.SynFault.TheVariants as refused_source
+use Rattle.vl_source.specs.Parsed as parsed
+use Rattle.vl_tree.specs.Token.{Tokens, coded}
+use Rattle.vl_tree.specs.declared.token.Token as declared
 use Rattle.vl_tree.specs.Tree.{Module}
 use Rattle.vl_tree.specs.Grammar.{Derives}
 use Rattle.vl_meaning.specs.Faults.{is_sound}
@@ -15,9 +23,18 @@ use Rattle.vl_pre.specs.Bytes.{Text}
 use Rattle.vl_pre.specs.CleanText.{clean_text}
 use Rattle.vl_lex.specs.Tokens.{tokens_of}
 use Rattle.vl_front.specs.Spelled.{by_clean_text}
-use Rattle.vl_front.specs.Calls.Faults.{of_static, of_tree}
-use Rattle.vl_front.specs.Reads.{IsFirst, Reads}
+use Rattle.vl_front.specs.Calls.Faults.{of_static, of_source, of_tree}
+use Rattle.vl_front.specs.FirstFault.{AreSource, line_of, line_at}
+use Rattle.vl_front.specs.Reads.{IsFirst, IsTreeFirst, Reads}
 use Rattle.vl_front.specs.OneModule.{IsOneModule, IsDesign, IsNoDesign}
+use Rattle.vl_front.specs.declared.fault.DesignFault.{DesignFault}
+use Rattle.vl_front.specs.declared.fault.DesignFault.TheVariants as f
+
+-- a refusal of the tokens, with its line
+pub source_first : (ts : Tokens) (e : source.SynFault) → parsed.IsRefused ts e → IsTreeFirst ts (of_source ts e)
+source_first ts (refused_source.At n) h = (Some n, (n, inl (h, refl)))
+source_first ts (refused_source.Deep n) h = (Some n, (n, inr (h, refl)))
+source_first ts refused_source.Memory h = tt
 
 -- a fault of the clean text is the text's first
 pub clean_first : (text : List ℕ) (e : StaticFault) → HasFault (clean_text text) (fault_of e) → IsFirst (spelled text) (of_static e)
@@ -36,24 +53,51 @@ module _ (text : List ℕ) (ts : Tokens) (is : spelled text ≡ Ok ts) where
       let e : i.tokens ≡ ts = let f = i.is_spelled in cc in
       subst (λ (x : Tokens). Derives x m) e i.derived
 
+  -- why a text is refused whose tokens are no source
+  pub no_source : (e : DesignFault) → IsTreeFirst ts e → Reads text (Err e)
+  no_source (f.At phase line kind) h = (h.0, inr (ts, is, h.1))
+  no_source f.NotYetBuilt h = absurd h
+  no_source f.Memory h = tt
+
   -- where no module derives from the tokens, the text is no module's
-  no_tree : ((m : Module) → Derives ts m → ⊥) → IsNoDesign text
-  no_tree none = record { tokens = ts; is_spelled = is; none = λ m i. none m (derived m i) }
+  no_tree : AreSource ts → ((m : Module) → Derives ts m → ⊥) → IsNoDesign text
+  no_tree s none = record { tokens = ts; is_spelled = is; source = s; none = λ m i. none m (derived m i) }
 
   -- the same of the fault that says so
-  pub refused : (e : SynFault) → IsRefused ts e → Reads text (Err (of_tree e))
-  refused tree.NoTree h = no_tree h
-  refused tree.Memory h = tt
+  pub refused : AreSource ts → (e : SynFault) → IsRefused ts e → Reads text (Err (of_tree e))
+  refused s tree.NoTree h = no_tree s h
+  refused s tree.Memory h = tt
 
-  module _ (m : Module) (only : (n : Module) → Derives ts n → n ≡ m) where
+  module _ (src : AreSource ts) (m : Module) (only : (n : Module) → Derives ts n → n ≡ m) where
     -- where the one module that derives has a static fault, the text is no module's
     pub unsound : false ≡ is_sound m → IsNoDesign text
     unsound s = record {
       tokens = ts;
       is_spelled = is;
+      source = src;
       none = λ n i. let t : true ≡ false = sym i.sound ∙ ap is_sound (only n (derived n i)) ∙ sym s in absurd cc;
     }
 
     -- where it has none, the text is that module's alone
     pub accepted : Derives ts m → is_sound m ≡ true → IsDesign text m
-    accepted d s = record { here = record { tokens = ts; is_spelled = is; derived = d; sound = s }; only = λ n i. only n (derived n i) }
+    accepted d s = record { here = record { tokens = ts; is_spelled = is; source = src; derived = d; sound = s }; only = λ n i. only n (derived n i) }
+
+-- ---- lines
+
+read_some : (xs : List declared.Token) (m : ℕ) (t : declared.Token) → m < length xs → slice_get xs m ≡ Some (get_or xs m t)
+read_some [] m t l = absurd (omega (arith, l))
+read_some (x ∷ xs) zero t l = refl
+read_some (x ∷ xs) (suc m) t l = read_some xs m t (omega (arith, l))
+
+-- the line of the token that stands there
+pub line_some : (xs : List declared.Token) (n m : ℕ) (t : declared.Token) → m < length xs → t ≡ get_or xs m t
+    → m ≡ min n (length xs - 1) → t.line ≡ line_at (map coded xs) n
+line_some xs n m t l e h =
+    let k : min n (length (map coded xs) - 1) ≡ m = ap (λ k. min n (k - 1)) (length-map xs coded) ∙ sym h in
+    let x : slice_get xs m ≡ Some t = read_some xs m t l ∙ ap Some (sym e) in
+    sym (ap (λ k. line_of (slice_get (map coded xs) k)) k ∙ ap line_of (slice_get-map coded xs m ∙ ap (option_map coded) x))
+
+-- or the first line
+pub line_none : (xs : List declared.Token) (n m : ℕ) → length xs ≤ m → m ≡ min n (length xs - 1) → 1 ≡ line_at (map coded xs) n
+line_none [] n m l h = refl
+line_none (x ∷ xs) n m l h = absurd (omega (arith, l, h))

@@ -1,4 +1,5 @@
 pub mod Spelled
+pub mod FirstFault
 pub mod OneModule
 pub mod Reads
 pub mod Calls

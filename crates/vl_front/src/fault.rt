@@ -1,13 +1,21 @@
 //! Why a text gives no design.
 
+ghost use Rattle.std.specs.Prelude.{◌≡◌};
+ghost use Rattle.vl_tree.specs.Token.{all_coded};
+ghost use Rattle.vl_front.specs.FirstFault as first;
+ghost use Rattle.vl_front.specs.Calls.Faults.{of_source};
+ghost use Rattle.vl_front.specs.declared.fault.DesignFault.TheVariants.{At};
+
 use dt_core::fault::NoMemory;
 use vl_module::SynFault;
 use vl_tree::fault::{FaultKind, StaticFault};
+use vl_tree::token::Token;
 
 /// Why a text gives no design.
 #[derive(Clone, Copy, Debug, PartialEq, Eq)]
 pub enum DesignFault {
-    /// Its first static fault: the phase that finds it (1, clean text; 2, tokens), the line where it stands, from 1, and its kind.
+    /// Its first static fault: the phase that finds it (1, clean text; 2, tokens; 3, grammar), the line where it stands, from 1, and
+    /// its kind.
     At {
         phase: u8,
         line: u32,
@@ -59,5 +67,37 @@ impl From<NoMemory> for DesignFault {
 
     fn from(_: NoMemory) -> DesignFault {
         DesignFault::Memory
+    }
+}
+
+// The line of the token of this number; of the last one, where there are no more; the first line, where there is none.
+fn line_at(tokens: &[Token], number: u32) -> u32
+    ensures { result ≡ first.line_at (all_coded tokens.now) number }
+{
+    match tokens.get((number as usize).min(tokens.len().saturating_sub(1))) {
+        Some(token) => token.line,
+        None => 1,
+    }
+}
+
+/// Why tokens are no source, with the line.
+pub fn in_source(tokens: &[Token], fault: vl_source::SynFault) -> DesignFault
+    ensures { result ≡ of_source (all_coded tokens.now) fault }
+{
+    match fault {
+        vl_source::SynFault::At { token } => in_grammar(FaultKind::Syntax, line_at(tokens, token)),
+        vl_source::SynFault::Deep { token } => in_grammar(FaultKind::Deep, line_at(tokens, token)),
+        vl_source::SynFault::Memory => DesignFault::Memory,
+    }
+}
+
+// A fault of the grammar, which is phase 3.
+fn in_grammar(kind: FaultKind, line: u32) -> DesignFault
+    ensures { result ≡ At 3 line kind }
+{
+    DesignFault::At {
+        phase: 3,
+        line,
+        kind,
     }
 }

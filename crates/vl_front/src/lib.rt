@@ -1,21 +1,24 @@
 //! From the text of a design to its numbered design.
 //!
-//! Below: `vl_pre` (clean text), `vl_lex` (tokens), `vl_module` (tree), `vl_scope` (static faults), `vl_proc` (numbered design). Above:
-//! `dessert`.
-//! Promise: `read_design` answers the first fault of the clean text or of the tokens, with its line, exactly where there is one
-//! (`specs/Spelled`); of the other texts it accepts exactly those of sound modules with one clocked block
+//! Below: `vl_pre` (clean text), `vl_lex` (tokens), `vl_source` (whether they are a source), `vl_module` (the tree of one module with one
+//! clocked block), `vl_scope` (static faults), `vl_proc` (numbered design). Above: `dessert`.
+//! Promise: `read_design` answers the first fault of the clean text, of the tokens or of the grammar, with its line, exactly where
+//! there is one (`specs/FirstFault`); of the other texts it accepts exactly those of sound modules with one clocked block
 //! (`specs/OneModule`), and its design stands for the module (`StandsFor` of `vl_meaning`).
-//! Not said: which fault a text has that is refused as `NotYetBuilt`; that memory is enough.
+//! Not said: which later fault a text has that is refused as `NotYetBuilt`; that memory is enough.
 #![tactic(auto)]
 
-ghost use Rattle.std.specs.Prelude.{◌≡◌, ◌<◌, ◌^◌, ◌-◌, length, Ok, IfOk, IfErr};
+ghost use Rattle.std.specs.Prelude.{◌≡◌, ◌<◌, ◌≤◌, ◌^◌, ◌-◌, length, Ok, IfOk, OnOk, IfErr};
 ghost use Rattle.vl_tree.specs.Token.{all_coded};
 ghost use Rattle.vl_front.specs.Spelled.{spelled};
-ghost use Rattle.vl_front.specs.Reads.{IsFirst, Reads};
+ghost use Rattle.vl_front.specs.FirstFault.{AreSource};
+ghost use Rattle.vl_front.specs.Reads.{IsFirst, IsTreeFirst, Reads};
 
 mod fault;
 
 pub use fault::DesignFault;
+use fault::in_source;
+use dt_core::limits::MAX_TOKENS;
 use flat_ir::flat::Flat;
 use std::alloc::Global;
 use vl_tree::token::Token;
@@ -26,6 +29,7 @@ pub fn read_design(alloc: Global, text: &[u8]) -> Result<Flat, DesignFault>
     ensures { Reads text.now result }
 {
     let tokens = read_tokens(alloc, text)?;
+    check_source(alloc, &tokens)?;
     let module = vl_module::parse_module(alloc, &tokens)?;
     if !vl_scope::is_sound(alloc, &module)? {
         return Err(DesignFault::NotYetBuilt);
@@ -37,8 +41,21 @@ pub fn read_design(alloc: Global, text: &[u8]) -> Result<Flat, DesignFault>
 fn read_tokens(alloc: Global, text: &[u8]) -> Result<Vec<Token>, DesignFault>
     requires { length text.now < 2 ^ 32 - 1 }
     ensures tokens { IfOk result (λ v. spelled text.now ≡ Ok (all_coded v.items)) }
+    ensures few { IfOk result (λ v. length v.items ≤ MAX_TOKENS) }
     ensures fault { IfErr result (IsFirst (spelled text.now)) }
 {
     let clean = vl_pre::preprocess(alloc, text)?;
     Ok(vl_lex::lex(alloc, &clean)?)
+}
+
+// Whether all of the tokens are a source. Its tree isn't looked at.
+fn check_source(alloc: Global, tokens: &[Token]) -> Result<(), DesignFault>
+    requires { length tokens.now < 2 ^ 32 - 1 }
+    ensures source { OnOk result (AreSource (all_coded tokens.now)) }
+    ensures fault { IfErr result (IsTreeFirst (all_coded tokens.now)) }
+{
+    if let Err(fault) = vl_source::parse_source(alloc, tokens) {
+        return Err(in_source(tokens, fault));
+    }
+    Ok(())
 }

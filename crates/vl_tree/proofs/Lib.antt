@@ -3,3 +3,4 @@ pub mod GrammarExamples
 pub mod SyntaxExamples
 pub mod BadPlaceExample
 pub mod NearestElseExample
+pub mod CounterSource

@@ -18,6 +18,8 @@ name_of k.BadNumber = codes "BadNumber"
 name_of k.TooWide = codes "TooWide"
 name_of k.OpenString = codes "OpenString"
 name_of k.TooManyTokens = codes "TooManyTokens"
+name_of k.Syntax = codes "Syntax"
+name_of k.Deep = codes "Deep"
 
 -- a static fault: the phase that has it, its line, from 1, the number of its token where there are tokens, and its kind
 pub record Fault : Type 0 where

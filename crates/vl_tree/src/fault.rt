@@ -31,6 +31,10 @@ pub enum FaultKind {
     OpenString,
     /// Phase 2: more than 1,048,576 tokens.
     TooManyTokens,
+    /// Phase 3: no source goes on with the tokens up to this one.
+    Syntax,
+    /// Phase 3: a token deeper than 200.
+    Deep,
 }
 
 impl FaultKind {
@@ -51,6 +55,8 @@ impl FaultKind {
             FaultKind::TooWide => "TooWide",
             FaultKind::OpenString => "OpenString",
             FaultKind::TooManyTokens => "TooManyTokens",
+            FaultKind::Syntax => "Syntax",
+            FaultKind::Deep => "Deep",
         }
     }
 }
