@@ -162,8 +162,8 @@ def read_variable(dump: Dump) -> Variable:
     """A declaration after its $var: `reg 8 ! data [7:0] $end`. The range may also stand at the name without a blank."""
     kind, width, code = (shown(dump.take("a declaration")) for _ in range(3))
     reference = [shown(word) for word in dump.take_to_end("a declaration")]
-    if not width.isdecimal() or not reference:
-        dump.refuse("a variable without a width or a name")
+    if not width.isdecimal() or not reference or any(word.startswith("$") for word in reference[1:]):
+        dump.refuse("a declaration without a width, a name or its $end")
     name, bits = reference[0], bits_of("".join(reference[1:]))
     joined = NAME_AND_RANGE.fullmatch(name) if len(reference) == 1 else None
     # Else it is an element of an array, whose name ends with an index, or an escaped name that looks like one.
