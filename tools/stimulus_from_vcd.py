@@ -20,7 +20,6 @@ wait in a temporary file until the dump is at its end. So memory doesn't grow wi
 import argparse
 import contextlib
 import difflib
-import os
 import re
 import shutil
 import sys
@@ -103,7 +102,7 @@ class Dump:
 
     def take(self, within: str) -> bytes:
         """The next word, which must be there."""
-        for word in self.words:
+        if (word := next(self.words, None)) is not None:
             return word
         self.refuse(f"the dump ends in the middle of {within}")
 
@@ -172,24 +171,29 @@ def read_variable(dump: Dump) -> Variable:
     return Variable(kind, int(width), code.encode("utf-8", "surrogateescape"), plain(name), bits)
 
 
+def read_scope(dump: Dump, outer: str) -> str:
+    """The path of the scope that begins after a $scope: `module dut $end`. Verilator's outermost one may have no name."""
+    names = [plain(shown(word)) for word in dump.take_to_end("a scope")[1:]]
+    return ".".join(filter(None, [outer, *names]))
+
+
 def read_header(dump: Dump, scope: str) -> Header:
     """Reads to the end of the declarations. Of the scopes only the names are kept, and variables only of the one that is asked for."""
-    path = [""]
     variables: dict[str, list[Variable]] = {}
     scopes: dict[str, None] = {}
+    open_scopes = [""]
     while (command := dump.take("its header")) != b"$enddefinitions":
         if command == b"$var":
             variable = read_variable(dump)
-            if path[-1] == scope:
+            if open_scopes[-1] == scope:
                 variables.setdefault(variable.name, []).append(variable)
         elif command == b"$scope":
-            name = [plain(shown(word)) for word in dump.take_to_end("a scope")[1:2]]
-            path.append(".".join([it for it in path[-1:] if it] + name))
-            scopes[path[-1]] = None
+            open_scopes.append(read_scope(dump, open_scopes[-1]))
+            scopes[open_scopes[-1]] = None
         elif command == b"$upscope":
             dump.take_to_end("a scope")
-            path.pop()
-            if not path:
+            open_scopes.pop()
+            if not open_scopes:
                 dump.refuse("an $upscope without its $scope")
         elif command.startswith(b"$"):
             dump.take_to_end("its header")
@@ -581,7 +585,7 @@ class Recorder:
 
     def _take_gap(self, line: int) -> None:
         if not self._zeros:
-            raise Refusal(f"{self._gap}, and the edges till it is on aren't in it; --x0 goes on without them", line)
+            raise Refusal(f"{self._gap}, and edges of the clock may be missing; --x0 goes on without them", line)
         self.gaps_taken += 1
         self._gap = ""
 
@@ -652,9 +656,9 @@ def convert(options: Options, stream: BinaryIO, rows: BinaryIO) -> list[str]:
         dump.refuse(f"no rising edge of {options.clock}")
     notes = []
     if recorder.zeros_taken:
-        notes.append(f"{recorder.zeros_taken} values that were x or z were taken as 0")
+        notes.append(f"values that were x or z and are taken as 0: {recorder.zeros_taken}")
     if recorder.gaps_taken:
-        notes.append(f"the dump was off {recorder.gaps_taken} times before an edge")
+        notes.append(f"gaps of the dump, of which there are no rows: {recorder.gaps_taken}")
     if recorder.ends_low and not options.stopped:
         notes.append(f"the dump ends before {options.clock} rises again: where the run stopped at that edge, --stopped gives its row")
     return notes
@@ -687,11 +691,10 @@ def main(words: list[str]) -> int:
         tell(f"{source}{refusal}")
         return 2
     except OSError as error:
-        tell(str(error))
+        tell(f"{error.filename}: {error.strerror}" if error.filename else str(error.strerror))
         return 2
     return 0
 
 
 if __name__ == "__main__":
-    status = main(sys.argv[1:])
-    sys.exit(status)
+    sys.exit(main(sys.argv[1:]))

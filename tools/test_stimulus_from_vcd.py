@@ -135,8 +135,8 @@ class Converts(unittest.TestCase):
     def test_notes(self):
         gap = "#7\n$dumpoff\nx!\nx%\nbx &\n$end\n#25\n$dumpon\n0!\n1%\nb10 &\n$end\n"
         table = [
-            (START + "#1\nbx &\nz%\n#5 1!\n#10 0!\n#15 1!\n", ["--x0"], ["4 values that were x or z were taken as 0"]),
-            (START + gap + "#35 1!\n", ["--x0"], ["the dump was off 1 times before an edge"]),
+            (START + "#1\nbx &\nz%\n#5 1!\n#10 0!\n#15 1!\n", ["--x0"], ["values that were x or z and are taken as 0: 4"]),
+            (START + gap + "#35 1!\n", ["--x0"], ["gaps of the dump, of which there are no rows: 1"]),
             (START + "#5 1!\n#10 0!\n", [], ["the dump ends before clk rises again: "]),
             (START + "#5 1!\n#10 0!\n", ["--stopped"], []),
             (START + "#5 1!\n", [], []),
@@ -337,7 +337,7 @@ class Recorded(unittest.TestCase):
         status, stimulus, said = self.features("icarus", "--scope", "tb.dut.part.core", "--x0")
         rows = [row for cycle, row in enumerate(self.said("features", "icarus")[0]) if cycle not in self.IN_THE_GAP]
         self.assertEqual((status, self.rows_of(stimulus)), (0, rows))
-        self.assertIn("the dump was off 1 times before an edge", said)
+        self.assertIn("gaps of the dump, of which there are no rows: 1", said)
 
     def test_round_trip(self):
         """The program's first failure is the testbench's own."""
