@@ -20,6 +20,7 @@ wait in a temporary file until the dump is at its end. So memory doesn't grow wi
 import argparse
 import contextlib
 import difflib
+import os
 import re
 import shutil
 import sys
@@ -672,8 +673,17 @@ def run(options: Options) -> None:
         for note in notes:
             tell(f"note: {note}")
         rows.seek(0)
+        copy_out(rows)
+
+
+def copy_out(rows: BinaryIO) -> None:
+    try:
         shutil.copyfileobj(rows, sys.stdout.buffer)
         sys.stdout.flush()
+    except OSError:
+        # Or else Python tries the rest once more as it ends, and ends with a status and words of its own.
+        os.dup2(os.open(os.devnull, os.O_WRONLY), sys.stdout.fileno())
+        raise
 
 
 def tell(text: str) -> None:

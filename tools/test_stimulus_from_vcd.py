@@ -360,7 +360,8 @@ class Runs(unittest.TestCase):
         os.close(ends[0])
         words = ["--scope", "tb.dut", "--clock", "clk", "-"]
         dump = dump_of(START + "#5\n1!\n")
-        done = subprocess.run([sys.executable, TOOL, *words], input=dump, stdout=ends[1], stderr=subprocess.PIPE)
+        plain = {name: value for name, value in os.environ.items() if not name.startswith("PYTHON")}
+        done = subprocess.run([sys.executable, TOOL, *words], input=dump, stdout=ends[1], stderr=subprocess.PIPE, env=plain)
         os.close(ends[1])
         self.assertEqual(done.returncode, 2)
         self.assertRegex(done.stderr.decode(), r"\A[^\n]+\n\Z")
