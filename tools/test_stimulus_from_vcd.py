@@ -63,7 +63,7 @@ class Converts(unittest.TestCase):
         ("a short vector is extended by 0", START + "#1\nB101 &\n#5\n1!\n", [], ["inputs a b", "0 5"]),
         ("inputs in the order asked for", START + "#1\nb1 &\n#5\n1!\n", ["--inputs", "b,a"], ["inputs b a", "1 0"]),
         ("no inputs", START + "#5\n1!\n", ["--inputs", ""], ["inputs", ""]),
-        ("comments and other commands are passed over", START + "$comment 1% #9 $end\n$vcdclose 3 $end\n#5\n1!\n", [], ["inputs a b", "0 0"]),
+        ("other commands are passed over", START + "$comment 1% #9 $end\n$vcdclose 3 $end\n#5\n1!\n", [], ["inputs a b", "0 0"]),
         ("a dump that is off at its end", START + "#5 1!\n#7\n$dumpoff\nx!\nx%\nbx &\n$end\n", [], ["inputs a b", "0 0"]),
         ("an edge where the dump goes off", START + "#5 1!\n$dumpoff\nx!\nx%\nbx &\n$end\n", [], ["inputs a b", "0 0"]),
         (
@@ -72,11 +72,18 @@ class Converts(unittest.TestCase):
             ["--x0"],
             ["inputs a b", "0 0", "1 2"],
         ),
+        (
+            "a gap in which the clock rises, with --x0",
+            START + "#5 1!\n#6 0!\n#7\n$dumpoff\nx!\nx%\nbx &\n$end\n#25\n$dumpon\n1!\n1%\nb10 &\n$end\n#30 0!\n#35 1!\n",
+            ["--x0"],
+            ["inputs a b", "0 0", "1 2"],
+        ),
         ("x and z with --x0", START + "#1\nbzx1 &\nz%\n#5\n1!\n", ["--x0"], ["inputs a b", "0 1"]),
         ("x extends x, with --x0", START + "#1\nbX &\n#2\nb11 &\n#5\n1!\n", ["--x0"], ["inputs a b", "0 3"]),
         ("x at the clock with --x0 is 0", START + "#1\nx!\n#2\n1!\n#3\nx!\n#4\n0!\n#5\n1!\n", ["--x0"], ["inputs a b", "0 0", "0 0"]),
         ("x where no edge is", START + "#1\nx%\nbx &\n#2\n0%\nb1 &\n#5\n1!\n", [], ["inputs a b", "0 1"]),
         ("the edge that the run stopped at", START + "#5\n1!\n#10\n0!\n#12\n1%\n", ["--stopped"], ["inputs a b", "0 0", "1 0"]),
+        ("no edge after a dump that is off", START + "#5 1!\n#7\n$dumpoff\nx!\n$end\n", ["--stopped"], ["inputs a b", "0 0"]),
         ("no edge can come after the end", START + "#5\n1!\n#10\n1%\n", ["--stopped"], ["inputs a b", "0 0"]),
     ]
 
@@ -94,6 +101,7 @@ class Converts(unittest.TestCase):
         ("an element of an array", "$var wire 1 ! clk $end $var wire 8 & b[3] [7:0] $end", ["inputs b[3]", "a5"]),
         ("the same without its range", "$var wire 1 ! clk $end $var wire 8 & b[3] $end", ["inputs b[3]", "a5"]),
         ("an escaped name", "$var wire 1 ! clk $end $var wire 8 & \\b+c[3] [7:0] $end", ["inputs b+c[3]", "a5"]),
+        ("an escaped name like a bit", "$var wire 1 ! clk $end $var wire 1 , \\b[3] $end", ["inputs b[3]", "1"]),
         ("a name with bytes of UTF-8", "$var wire 1 ! clk $end $var wire 8 & \\é $end", ["inputs é", "a5"]),
         ("two names of one code", "$var wire 1 ! clk $end $var wire 8 & b $end $var wire 8 & c $end", ["inputs b c", "a5 a5"]),
         ("an input that is the clock's net", "$var wire 1 ! clk $end $var wire 1 ! b $end", ["inputs b", "0"]),
@@ -106,7 +114,8 @@ class Converts(unittest.TestCase):
         (
             "other scopes, of the same names",
             "$scope module in $end $var wire 4 ) b $end $upscope $end $var wire 1 ! clk $end $var wire 8 & b $end "
-            "$scope begin g $end $var wire 4 ) b $end $upscope $end",
+            "$scope begin g $end $var wire 4 ) b $end $upscope $end "
+            "$scope module tb $end $scope module dut $end $var wire 4 ) b $end $upscope $end $upscope $end",
             ["inputs b", "a5"],
         ),
         (
@@ -172,6 +181,7 @@ class Refuses(unittest.TestCase):
         (WITH_A, START, [], 14, "no rising edge of clk"),
         (WITH_A, START + "#5\n1%\n", [], 16, "no rising edge of clk"),
         (WITH_A, START + "#7\n$dumpoff\nx!\n$end\n#9\n$dumpon\n0!\n$end\n#10\n1!\n", [], 24, "the dump is off from time 7 (line 16), and"),
+        (WITH_A, START + "#7 $dumpoff $end #8 $dumpon $end #9 $dumpoff $end\n#10 0! #15 1!\n", [], 16, "the dump is off from time 7 "),
         (WITH_A, START + "#5\n1!\n#10", [], 17, "the dump ends in the middle of a line"),
         (WITH_A, START + "#5\n1!\nb101\n", [], 17, "the dump ends in the middle of a value"),
         (WITH_A, START + "#5\n1!\n#7\n$dumpall\n1!\n", [], 19, "the dump ends in the middle of $dumpall"),
@@ -255,7 +265,7 @@ class ReadsDesigns(unittest.TestCase):
         ("module low(input clk, input x); endmodule module m(input clk, input y); low #(3) l(clk, y); endmodule", "y"),
         ("module m(input clk, input y); low l(clk, y); endmodule module low(input clk, input x); endmodule", "y"),
         ("module m(input clk, input a); initial $display(\"module n(input b);\"); always @(*) ; endmodule", "a"),
-        ("module m(input clk, input a); endmodule module n(input clk, input b); endmodule", "!the design's top isn't clear, as these modules"),
+        ("module m(input clk, input a); endmodule module n(input clk, input b); endmodule", "!the design's top isn't clear, as"),
         ("", "!the design's top isn't clear"),
         ("module m(input a); endmodule", "!the design's top m has no input clk"),
         ("module m(input clk,\n`ifdef WIDE\ninput b,\n`endif\ninput a); endmodule", "!the ports of m have `ifdef, which isn't read here"),
@@ -304,7 +314,7 @@ class Recorded(unittest.TestCase):
     def example(self, name, simulator, scope, files):
         """The stimulus, by a command as the README has it."""
         words = ["--scope", scope, "--clock", "clk", "--design", *files, "--stopped", "--", self.path(name, simulator, "vcd")]
-        done = subprocess.run([sys.executable, TOOL, *words], cwd=TOP, stdout=subprocess.PIPE, stderr=subprocess.PIPE, text=True)
+        done = subprocess.run([sys.executable, TOOL, *words], cwd=TOP, capture_output=True, text=True)
         self.assertEqual((done.returncode, done.stderr), (0, ""))
         return done.stdout
 
@@ -346,7 +356,7 @@ class Recorded(unittest.TestCase):
         for name, simulator, scope, files in self.EXAMPLES:
             with self.subTest(name, simulator=simulator):
                 stimulus = self.example(name, simulator, scope, files)
-                done = subprocess.run([PROGRAM, "sim", *files], cwd=TOP, input=stimulus, stdout=subprocess.PIPE, stderr=subprocess.PIPE, text=True)
+                done = subprocess.run([PROGRAM, "sim", *files], cwd=TOP, input=stimulus, capture_output=True, text=True)
                 failure = self.said(name, simulator)[1]
                 self.assertEqual((done.returncode, done.stderr.splitlines()[0]), (1, f"failure at cycle {failure}"))
 
