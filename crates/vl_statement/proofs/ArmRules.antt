@@ -5,23 +5,22 @@ use Rattle.vl_tree.specs.declared.token.Key.TheVariants as w
 use Rattle.vl_tree.specs.declared.token.Mark.TheVariants as m
 use Rattle.vl_tree.specs.Token as k
 use Rattle.vl_tree.specs.Syntax.{Place, Expr, Exprs, no_expr, more_expr, Arms, no_arm, more_arm, default_arm, no_branch}
-use Rattle.vl_tree.specs.Syntax.{Stmt, empty, block, conditional, select, loop, assign, print, file_print, stop, fatal}
-use Rattle.vl_tree.specs.Placed.{Placed, at, kind_of}
-use Rattle.vl_tree.specs.Piece.{mark, where_true}
-use Rattle.vl_tree.specs.Expressions.{expr_at, exprs_at}
+use Rattle.vl_tree.specs.Syntax.{Stmt, empty, conditional, select}
+use Rattle.vl_tree.specs.Placed.{Placed, at}
+use Rattle.vl_tree.specs.Piece.{mark}
+use Rattle.vl_tree.specs.Expressions.{exprs_at}
 use Rattle.vl_tree.specs.Statements.{stmt_at, arms_at, has_arm, case_word, NoElse}
-use Rattle.vl_tree.specs.Depth.{expr_depths, exprs_depths, stmt_depths, arms_depths, one_if}
+use Rattle.vl_tree.specs.Depth.{exprs_depths, stmt_depths, arms_depths, one_if}
 use Rattle.vl_read.specs.Reading.{Took, Sunk, Any, Both, BothDepths}
 use Rattle.vl_read.specs.Tokens.{one, one_deep, Not}
-use Rattle.vl_read.proofs.Pieces.{Links, Productive, Nothing, took_nothing, link_any, sunk_here}
+use Rattle.vl_read.proofs.Pieces.{Productive, Nothing, took_nothing, link_any, sunk_here}
 use Rattle.vl_read.proofs.Leads.{Leads, leads_on, leads_less, leads_as, leads_after, leads_where}
 use Rattle.vl_read.proofs.TokenRules.{somewhere, link_kind_first}
 use Rattle.vl_expr.specs.Ends.{EndsList}
-use Rattle.vl_expr.proofs.Common.{some_list}
 use Rattle.vl_statement.specs.Readers.{NoColon, grouped_at, grouped_depths}
 use Rattle.vl_statement.specs.Parts.{after, after_depths, PlainArm, labels, default, arm_at, arm_depths, with_arm, closed_at, closed_depths}
-use Rattle.vl_statement.proofs.Steps.{Joint, both_some}
-use Rattle.vl_statement.proofs.PartRules.{some_kind, colon_at}
+use Rattle.vl_statement.proofs.Steps.{Joint}
+use Rattle.vl_statement.proofs.PartRules.{colon_at}
 use Rattle.vl_statement.proofs.Heads.{IsHead, tail_at, head_of, some_stmt, stmt_not, expr_key}
 
 exprs_key : (es : Exprs) (p : Place) (v : _) (us z : List Placed) → exprs_at es (at (k.key v) p ∷ us) z → ⊥

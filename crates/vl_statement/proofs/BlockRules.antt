@@ -1,17 +1,17 @@
 -- The rules of blocks and loops.
-use Rattle.std.proofs.Common.{◌≡◌, ◌≤◌, ◌+◌, ℕ, List, [], ◌∷◌, ◌++◌, length, refl, sym, ◌∙◌, ap, subst, append_assoc}
-use Rattle.std.specs.Prelude.{Option, Some, None, false, true}
+use Rattle.std.proofs.Common.{◌≡◌, ◌≤◌, ◌+◌, ℕ, List, [], ◌∷◌, refl, sym, ◌∙◌, ap, subst, append_assoc}
+use Rattle.std.specs.Prelude.{Option, false, true}
 use Rattle.vl_tree.specs.declared.token.Key.TheVariants as w
 use Rattle.vl_tree.specs.declared.token.Mark.TheVariants as m
 use Rattle.vl_tree.specs.Token as k
 use Rattle.vl_tree.specs.Syntax.{Place, Name, Loop, Stmts, no_stmt, more_stmt, no_branch}
-use Rattle.vl_tree.specs.Syntax.{Stmt, empty, block, conditional, select, loop, assign, print, file_print, stop, fatal}
-use Rattle.vl_tree.specs.Placed.{Placed, at, kind_of}
-use Rattle.vl_tree.specs.Statements.{label_at, loop_at, stmt_at, stmts_at, NoElse}
+use Rattle.vl_tree.specs.Syntax.{Stmt, block, conditional, select, loop}
+use Rattle.vl_tree.specs.Placed.{Placed, at}
+use Rattle.vl_tree.specs.Statements.{label_at, loop_at, stmt_at, NoElse}
 use Rattle.vl_tree.specs.Depth.{label_depths, loop_depths, stmt_depths, stmts_depths}
 use Rattle.vl_read.specs.Reading.{Took, Any, Both, BothDepths}
 use Rattle.vl_read.specs.Tokens.{Not}
-use Rattle.vl_read.proofs.Pieces.{Links, Nothing, took_nothing, link_any}
+use Rattle.vl_read.proofs.Pieces.{Nothing, took_nothing, link_any}
 use Rattle.vl_read.proofs.Leads.{Leads, leads_on, leads_less, leads_as, leads_after, leads_where}
 use Rattle.vl_read.proofs.TokenRules.{somewhere}
 use Rattle.vl_statement.specs.Readers.{NoColon}

@@ -1,21 +1,21 @@
 -- The rules of conditionals.
-use Rattle.std.proofs.Common.{◌≡◌, ◌≤◌, ◌+◌, ℕ, List, [], ◌∷◌, ◌++◌, length, refl, sym, ◌∙◌, ap, subst, append_assoc}
+use Rattle.std.proofs.Common.{◌≡◌, ◌≤◌, ◌+◌, ℕ, List, [], ◌∷◌, ◌++◌, refl, sym, ◌∙◌, ap, subst, append_assoc}
 use Rattle.std.specs.Prelude.{false, true}
 use Rattle.vl_tree.specs.declared.token.Key.TheVariants as w
 use Rattle.vl_tree.specs.declared.token.Mark.TheVariants as m
 use Rattle.vl_tree.specs.Token as k
 use Rattle.vl_tree.specs.Syntax.{Place, Expr, Branches, no_branch, more_branch, Otherwise, no_else, else_stmt}
-use Rattle.vl_tree.specs.Syntax.{Stmt, empty, block, conditional, select, loop, assign, print, file_print, stop, fatal}
+use Rattle.vl_tree.specs.Syntax.{Stmt, empty, conditional, select}
 use Rattle.vl_tree.specs.Placed.{Placed, at, kind_of}
-use Rattle.vl_tree.specs.Statements.{stmt_at, branches_at, otherwise_at, is_conditional, NoElse}
+use Rattle.vl_tree.specs.Statements.{stmt_at, is_conditional, NoElse}
 use Rattle.vl_tree.specs.Depth.{stmt_depths, more_branches_depths, otherwise_depths}
 use Rattle.vl_tree.specs.Derives.{Within, Sinks}
 use Rattle.vl_read.specs.declared.fault.Fault.{Fault}
 use Rattle.vl_read.specs.declared.fault.Fault.TheVariants as f
 use Rattle.vl_read.specs.Reading.{Took, Refuses, Any, Both, BothDepths}
 use Rattle.vl_read.specs.Tokens.{Not}
-use Rattle.vl_read.proofs.Pieces.{Links, link_any}
-use Rattle.vl_read.proofs.Leads.{Leads, leads_on, leads_as, leads_after, leads_same}
+use Rattle.vl_read.proofs.Pieces.{link_any}
+use Rattle.vl_read.proofs.Leads.{Leads, leads_as, leads_after, leads_same}
 use Rattle.vl_read.proofs.TokenRules.{somewhere}
 use Rattle.vl_statement.specs.Readers.{grouped_at, grouped_depths}
 use Rattle.vl_statement.specs.Parts.{after, after_depths, rest_of, branch_at, branch_depths, others_at, others_depths}
@@ -230,9 +230,12 @@ module _ (d : ℕ) where
     last_viable : (P : List Placed → List ℕ → Type 0) → ((ds : List ℕ) → P [] ds) → (used rest : List Placed) → ts ≡ used ++ rest
         → ((z : List Placed) → NoElse z → (t : Stmt) × (y : List Placed) × stmt_at t (used ++ y) z × P used (stmt_depths (d + 1) t))
         → (z : List Placed) → NoElse z → (u : Others) × (y : List Placed) × else_at o u (used ++ y) z × P used (else_depths u)
-    last_viable P none [] rest e v z g =
-        (last (empty somewhere), at (k.mark m.Semicolon) somewhere ∷ z, last_into (empty somewhere) (at (k.mark m.Semicolon) somewhere ∷ z) z refl refl,
-        none (else_depths (last (empty somewhere))))
+    last_viable P none [] rest e v z g = (
+      last (empty somewhere),
+      at (k.mark m.Semicolon) somewhere ∷ z,
+      last_into (empty somewhere) (at (k.mark m.Semicolon) somewhere ∷ z) z refl refl,
+      none (else_depths (last (empty somewhere))),
+    )
     last_viable P none (b ∷ bs) rest e v z g =
         let s = v z g in
         (last s.0, s.1, last_into s.0 (b ∷ (bs ++ s.1)) z (not_if s.0 (b ∷ (bs ++ s.1)) z (no_if b (bs ++ rest) e (bs ++ s.1)) s.2) s.2, s.3)

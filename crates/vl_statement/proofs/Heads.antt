@@ -1,6 +1,6 @@
 -- What a statement begins with, and what it can't begin with.
-use Rattle.std.proofs.Common.{◌≡◌, ◌≤◌, ◌+◌, ℕ, List, [], ◌∷◌, ◌++◌, length, refl, sym, ◌∙◌, ap, subst}
-use Rattle.std.specs.Prelude.{Bool, true, false, IsTrue, Option, Some, None}
+use Rattle.std.proofs.Common.{◌≡◌, ℕ, List, [], ◌∷◌, length, refl, sym, ◌∙◌, ap, subst}
+use Rattle.std.specs.Prelude.{Bool, true, false, IsTrue, Some}
 use Rattle.vl_tree.specs.declared.token.Key.{Key}
 use Rattle.vl_tree.specs.declared.token.Key.TheVariants as w
 use Rattle.vl_tree.specs.declared.token.Mark.TheVariants as m
@@ -8,26 +8,22 @@ use Rattle.vl_tree.specs.declared.token.System.TheVariants as s
 use Rattle.vl_tree.specs.Token.{Kind}
 use Rattle.vl_tree.specs.Token as k
 use Rattle.vl_tree.specs.Syntax.{Place, Expr, number, read, call, system, group, concat, repeat, unary, chain, choose}
-use Rattle.vl_tree.specs.Syntax.{no_expr, no_select, more_expr, no_link, more_link, no_choice, more_choice}
-use Rattle.vl_tree.specs.Syntax.{Target, name, targets, no_target, more_target, blocking, Print, display, write, bare, no_argument}
+use Rattle.vl_tree.specs.Syntax.{no_link, more_link, no_choice, more_choice}
+use Rattle.vl_tree.specs.Syntax.{Target, name, targets, Print, display, write}
 use Rattle.vl_tree.specs.Syntax.{Stmt, empty, block, conditional, select, loop, assign, print, file_print, stop, fatal}
-use Rattle.vl_tree.specs.Syntax.{no_stmt, no_branch, more_branch, no_else, more_arm, no_arm}
-use Rattle.vl_tree.specs.Placed.{Placed, at, kind_of}
-use Rattle.vl_tree.specs.Piece.{Piece, ◌then◌, nothing, nowhere, given, word, mark, mark_at, kind_at, in_parens, where_true}
-use Rattle.vl_tree.specs.Expressions.{unary_of, expr_at, exprs_at, more_exprs_at}
+use Rattle.vl_tree.specs.Syntax.{no_branch, more_branch}
+use Rattle.vl_tree.specs.Placed.{Placed, at}
+use Rattle.vl_tree.specs.Piece.{Piece, ◌then◌, nothing, nowhere, given, word, mark, kind_at, in_parens, where_true}
+use Rattle.vl_tree.specs.Expressions.{unary_of, expr_at, more_exprs_at}
 use Rattle.vl_tree.specs.Statements.{target_at, stmt_at, stmts_at, branches_at, otherwise_at, arms_at, label_at, loop_at}
 use Rattle.vl_tree.specs.Statements.{printed_at, stopped_at, case_word, print_name, has_arm, is_conditional, NoElse}
 use Rattle.vl_tree.specs.Depth.{stmt_depths, target_depths}
-use Rattle.vl_tree.specs.Derives.{Sinks}
-use Rattle.vl_read.specs.Reading.{Stuck, Sunk, Any}
+use Rattle.vl_read.specs.Reading.{Stuck, Any}
 use Rattle.vl_read.specs.Tokens.{Not}
-use Rattle.vl_read.proofs.Pieces.{Productive, stuck_here, sunk_here}
+use Rattle.vl_read.proofs.Pieces.{Productive, stuck_here}
 use Rattle.vl_read.proofs.TokenRules.{somewhere}
-use Rattle.vl_expr.proofs.Common.{some_number, zero_literal}
-use Rattle.vl_statement.specs.declared.start.Start.{Start}
-use Rattle.vl_statement.specs.declared.start.Start.TheVariants as start
-use Rattle.vl_statement.specs.Starts.{IsStart, aims, starts}
-use Rattle.vl_statement.specs.Parts.{after, after_depths, rest_of}
+use Rattle.vl_statement.specs.Starts.{aims, starts}
+use Rattle.vl_statement.specs.Parts.{rest_of}
 
 -- ---- the first token
 

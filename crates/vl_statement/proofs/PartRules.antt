@@ -11,13 +11,12 @@ use Rattle.vl_tree.specs.Expressions.{expr_at}
 use Rattle.vl_tree.specs.Statements.{label_at, loop_at}
 use Rattle.vl_tree.specs.Modules.{valued_at}
 use Rattle.vl_tree.specs.Depth.{name_depth, expr_depths, valued_depths, label_depths, loop_depths, one_if}
-use Rattle.vl_read.specs.declared.fault.Fault.{Fault}
-use Rattle.vl_read.specs.Reading.{Took, Sunk, Refuses, Any, Both, BothDepths}
-use Rattle.vl_read.specs.Tokens.{one, one_deep, Not}
-use Rattle.vl_read.proofs.Pieces.{Links, Productive, Nothing, link_any, took_empty, took_nothing, sunk_here}
+use Rattle.vl_read.specs.Reading.{Took, Sunk, Any, Both, BothDepths}
+use Rattle.vl_read.specs.Tokens.{one, one_deep}
+use Rattle.vl_read.proofs.Pieces.{Productive, Nothing, link_any, took_empty, took_nothing, sunk_here}
 use Rattle.vl_read.proofs.Leads.{Leads, leads_on, leads_less, leads_as, leads_after}
-use Rattle.vl_read.proofs.TokenRules.{somewhere, took_kind, link_kind, link_kind_first}
-use Rattle.vl_expr.specs.Ends.{EndsExpr, EndsList}
+use Rattle.vl_read.proofs.TokenRules.{somewhere, link_kind, link_kind_first}
+use Rattle.vl_expr.specs.Ends.{EndsExpr}
 use Rattle.vl_expr.proofs.Common.{some_number, zero_literal, some_expr, close_ends}
 use Rattle.vl_statement.specs.Readers.{NoColon, FindsOptional, grouped_at, grouped_depths}
 use Rattle.vl_statement.proofs.Steps.{Joint, both_some}
@@ -88,9 +87,11 @@ module _ (d : ℕ) where
 
   pub some_grouped : Productive grouped_at Any
   some_grouped z f =
-      let close : List Placed = at (k.mark m.CloseParen) somewhere ∷ z in
-      (some_number, at (k.mark m.OpenParen) somewhere ∷ at (k.number zero_literal) somewhere ∷ close,
-      (at (k.number zero_literal) somewhere ∷ close, (somewhere, refl), (close, refl, (somewhere, refl))))
+      let close : List Placed = at (k.mark m.CloseParen) somewhere ∷ z in (
+        some_number,
+        at (k.mark m.OpenParen) somewhere ∷ at (k.number zero_literal) somewhere ∷ close,
+        (at (k.number zero_literal) somewhere ∷ close, (somewhere, refl), (close, refl, (somewhere, refl))),
+      )
 
   -- ---- a label
 
@@ -156,9 +157,11 @@ module _ (d : ℕ) where
 some_valued : Productive valued_at Any
 some_valued z f =
     let value : List Placed = at (k.number zero_literal) somewhere ∷ z in
-    let equals : List Placed = at (k.mark m.Equals) somewhere ∷ value in
-    (record { name = some_name; value = some_number }, at (k.name []) somewhere ∷ equals,
-    (equals, refl, (value, (somewhere, refl), refl)))
+    let equals : List Placed = at (k.mark m.Equals) somewhere ∷ value in (
+      record { name = some_name; value = some_number },
+      at (k.name []) somewhere ∷ equals,
+      (equals, refl, (value, (somewhere, refl), refl)),
+    )
 
 module _ (d : ℕ) where
   abbrev pub L6 : Valued × Unit {0} → List Placed → List Placed → Type 0
@@ -248,9 +251,11 @@ module _ (d : ℕ) where
 
   loop_out : (u : Loop) (us z : List Placed) → loop_at u us z → Any z
       → (x : Unit {0} × (Valued × (Unit {0} × (Expr × (Unit {0} × (Valued × Unit {0})))))) × L1 x us z × (u ≡ make_loop x)
-  loop_out u us z (m1, o, (m6, (a1, n, (a2, q, (m2, v, (m3, s, (m4, c, (m5, t, (b1, n2, (b2, q2, v2)))))))), e)) g =
-      ((tt, (record { name = u.variable; value = u.first }, (tt, (u.condition, (tt, (record { name = u.stepped; value = u.step }, tt)))))),
-      (m1, o, (m2, (a1, n, (a2, q, v)), (m3, s, (m4, c, (m5, t, (m6, (b1, n2, (b2, q2, v2)), e)))))), refl)
+  loop_out u us z (m1, o, (m6, (a1, n, (a2, q, (m2, v, (m3, s, (m4, c, (m5, t, (b1, n2, (b2, q2, v2)))))))), e)) g = (
+    (tt, (record { name = u.variable; value = u.first }, (tt, (u.condition, (tt, (record { name = u.stepped; value = u.step }, tt)))))),
+    (m1, o, (m2, (a1, n, (a2, q, v)), (m3, s, (m4, c, (m5, t, (m6, (b1, n2, (b2, q2, v2)), e)))))),
+    refl,
+  )
 
   pub loop_parts : (ts : List Placed) → Leads L1 L1D Any Any ts loop_at (loop_depths d) Any Any ts make_loop
   loop_parts ts = leads_as L1 L1D loop_at (loop_depths d) Any Any make_loop loop_depth loop_into loop_out ts

@@ -1,35 +1,30 @@
 -- The rules of statements that hold no other.
-use Rattle.std.proofs.Common.{◌≡◌, ◌≤◌, ◌+◌, ℕ, List, [], ◌∷◌, ◌++◌, length, refl, sym, ◌∙◌, ap, subst, append_assoc, arith}
-use Rattle.std.specs.Prelude.{Bool, true, false, Option, Some, None}
+use Rattle.std.proofs.Common.{◌≡◌, ◌≤◌, ◌+◌, ℕ, List, [], ◌∷◌, ◌++◌, length, refl, sym, ◌∙◌, ap, subst}
+use Rattle.std.specs.Prelude.{Option, Some, None}
 use Rattle.vl_tree.specs.declared.token.Mark.TheVariants as m
-use Rattle.vl_tree.specs.declared.token.System.TheVariants as s
 use Rattle.vl_tree.specs.declared.token.TokenKind.{TokenKind}
 use Rattle.vl_tree.specs.declared.token.TokenKind.TheVariants as code
 use Rattle.vl_tree.specs.Token.{Kind, coded_kind}
 use Rattle.vl_tree.specs.Token as k
-use Rattle.vl_tree.specs.Syntax.{Place, Name, Expr, Exprs, no_expr, Target, name, targets, no_select, Assignment, blocking, nonblocking}
-use Rattle.vl_tree.specs.Syntax.{Print, display, write, Printed, bare, empty_list, format, Stopped, no_argument, empty_argument, argument}
-use Rattle.vl_tree.specs.Syntax.{Stmt, empty, block, conditional, select, loop, assign, print, file_print, stop, fatal, no_branch}
+use Rattle.vl_tree.specs.Syntax.{Place, Expr, Exprs, no_expr, Target, Assignment, blocking, nonblocking}
+use Rattle.vl_tree.specs.Syntax.{Printed, bare, empty_list, format, Stopped, no_argument, empty_argument, argument}
+use Rattle.vl_tree.specs.Syntax.{Stmt, assign}
 use Rattle.vl_tree.specs.Placed.{Placed, at, kind_of}
-use Rattle.vl_tree.specs.Piece.{Piece, ◌then◌, nothing, mark, mark_at, kind_at, in_parens, where_true}
+use Rattle.vl_tree.specs.Piece.{◌then◌, nothing, mark, mark_at}
 use Rattle.vl_tree.specs.Expressions.{expr_at, more_exprs_at}
-use Rattle.vl_tree.specs.Statements.{target_at, stmt_at, printed_at, stopped_at, assignment_mark, print_name, NoElse}
-use Rattle.vl_tree.specs.Depth.{target_depths, expr_depths, more_exprs_depths, stmt_depths, printed_depths, stopped_depths, one_if}
-use Rattle.vl_tree.specs.Derives.{Sinks}
-use Rattle.vl_read.specs.declared.fault.Fault.{Fault}
-use Rattle.vl_read.specs.Reading.{Took, Stuck, Sunk, Refuses, Any, Both, BothDepths}
+use Rattle.vl_tree.specs.Statements.{target_at, printed_at, stopped_at, assignment_mark}
+use Rattle.vl_tree.specs.Depth.{target_depths, expr_depths, more_exprs_depths, stmt_depths, printed_depths, stopped_depths}
+use Rattle.vl_read.specs.Reading.{Took, Stuck, Sunk, Any, Both, BothDepths}
 use Rattle.vl_read.specs.Tokens.{one, one_deep, Not}
-use Rattle.vl_read.proofs.Pieces.{Links, Productive, link_any, took_empty, stuck_here, sunk_here}
+use Rattle.vl_read.proofs.Pieces.{Productive, link_any, took_empty, stuck_here, sunk_here}
 use Rattle.vl_read.proofs.Leads.{Leads, leads_on, leads_less, leads_as, leads_after, leads_where}
-use Rattle.vl_read.proofs.TokenRules.{somewhere, took_kind, link_kind, link_kind_first}
+use Rattle.vl_read.proofs.TokenRules.{somewhere, link_kind}
 use Rattle.vl_expr.specs.Ends.{EndsExpr, EndsList}
-use Rattle.vl_expr.proofs.Common.{some_number, zero_literal, some_expr, close_ends, comma_ends, close_list}
+use Rattle.vl_expr.proofs.Common.{some_expr, close_ends, close_list}
 use Rattle.vl_statement.specs.Targets.{EndsTarget}
-use Rattle.vl_statement.specs.Parts.{after, after_depths, assign_at, NoAssignment, NoParen, format_at, format_depths}
-use Rattle.vl_statement.specs.Parts.{empty_list_at, empty_list_depths}
+use Rattle.vl_statement.specs.Parts.{assign_at, NoAssignment, NoParen, format_at, format_depths}
 use Rattle.vl_statement.proofs.Steps.{Joint, both_some}
 use Rattle.vl_statement.proofs.PartRules.{some_kind, semicolon_ends}
-use Rattle.vl_statement.proofs.Heads.{IsHead, tail_at, head_of}
 
 -- ---- assignments
 

@@ -1,14 +1,13 @@
 -- A token that begins a statement: some statement that begins with it, and what follows from what comes first.
-use Rattle.std.proofs.Common.{◌≡◌, ◌≤◌, ◌+◌, ℕ, List, [], ◌∷◌, ◌++◌, length, refl, sym, ◌∙◌, ap, subst}
-use Rattle.std.specs.Prelude.{Bool, true, false, None}
+use Rattle.std.proofs.Common.{◌≡◌, ◌≤◌, ℕ, List, [], ◌∷◌, length, refl, sym, ◌∙◌, ap, subst}
+use Rattle.std.specs.Prelude.{true, false, None}
 use Rattle.vl_tree.specs.declared.token.Key.TheVariants as w
 use Rattle.vl_tree.specs.declared.token.Mark.TheVariants as m
 use Rattle.vl_tree.specs.declared.token.System.TheVariants as s
-use Rattle.vl_tree.specs.declared.statement.Print as print_code
 use Rattle.vl_tree.specs.Token.{Kind}
 use Rattle.vl_tree.specs.Token as k
 use Rattle.vl_tree.specs.Syntax.{Place, name, targets, no_select, no_target, more_target, blocking, bare, no_argument}
-use Rattle.vl_tree.specs.Syntax.{Stmt, empty, block, conditional, select, loop, assign, print, file_print, stop, fatal}
+use Rattle.vl_tree.specs.Syntax.{Stmt, empty, block, conditional, select, loop, assign, print, stop, fatal}
 use Rattle.vl_tree.specs.Syntax.{no_stmt, no_branch, more_branch, no_else}
 use Rattle.vl_tree.specs.SyntaxView as plain
 use Rattle.vl_tree.specs.Placed.{Placed, at}
@@ -16,7 +15,7 @@ use Rattle.vl_tree.specs.Statements.{stmt_at, case_word, print_name, NoElse}
 use Rattle.vl_tree.specs.Depth.{stmt_depths}
 use Rattle.vl_tree.specs.Derives.{Sinks}
 use Rattle.vl_read.specs.Reading.{Took, Sunk, Any}
-use Rattle.vl_read.proofs.Pieces.{Nothing, Productive, took_nothing, sunk_here}
+use Rattle.vl_read.proofs.Pieces.{Nothing, took_nothing, sunk_here}
 use Rattle.vl_read.proofs.Leads.{Leads, leads_on, leads_less, leads_after, leads_same, leads_where}
 use Rattle.vl_read.proofs.TokenRules.{somewhere}
 use Rattle.vl_expr.proofs.Common.{some_number, zero_literal}
@@ -26,7 +25,7 @@ use Rattle.vl_statement.specs.Starts.{IsStart, aims}
 use Rattle.vl_statement.specs.Parts.{after, after_depths, rest_of, assign_at}
 use Rattle.vl_statement.proofs.Steps.{both_some}
 use Rattle.vl_statement.proofs.PartRules.{some_name, some_kind, some_grouped, some_loop}
-use Rattle.vl_statement.proofs.Heads.{IsHead, tail_at, head_of, some_stmt, first_depth, stmt_end}
+use Rattle.vl_statement.proofs.Heads.{head_of, some_stmt, first_depth, stmt_end}
 use Rattle.vl_statement.proofs.TaskRules.{f2_some, make_file, file_into}
 use Rattle.vl_statement.proofs.ArmRules.{arms_some, make_select, select_into}
 
@@ -36,17 +35,21 @@ some_aim : (a : Kind) (p : Place) → aims a ≡ true → (z : List Placed) → 
 some_aim (k.name n) p i z =
     let last : List Placed = at (k.mark m.Semicolon) somewhere ∷ z in
     let value : List Placed = at (k.number zero_literal) somewhere ∷ last in
-    let sign : List Placed = at (k.mark m.Equals) somewhere ∷ value in
-    (assign (name (record { text = n; place = p }) no_select) blocking somewhere some_number, sign,
-    (sign, (sign, refl, refl), (value, refl, (last, refl, (somewhere, refl)))))
+    let sign : List Placed = at (k.mark m.Equals) somewhere ∷ value in (
+      assign (name (record { text = n; place = p }) no_select) blocking somewhere some_number,
+      sign,
+      (sign, (sign, refl, refl), (value, refl, (last, refl, (somewhere, refl)))),
+    )
 some_aim (k.mark m.OpenBrace) p i z =
     let last : List Placed = at (k.mark m.Semicolon) somewhere ∷ z in
     let value : List Placed = at (k.number zero_literal) somewhere ∷ last in
     let sign : List Placed = at (k.mark m.Equals) somewhere ∷ value in
     let close : List Placed = at (k.mark m.CloseBrace) somewhere ∷ sign in
-    let first : List Placed = at (k.name []) somewhere ∷ close in
-    (assign (targets p (more_target (name some_name no_select) no_target)) blocking somewhere some_number, first,
-    (sign, (first, refl, (close, (close, (close, refl, refl), refl), (somewhere, refl))), (value, refl, (last, refl, (somewhere, refl)))))
+    let first : List Placed = at (k.name []) somewhere ∷ close in (
+      assign (targets p (more_target (name some_name no_select) no_target)) blocking somewhere some_number,
+      first,
+      (sign, (first, refl, (close, (close, (close, refl, refl), refl), (somewhere, refl))), (value, refl, (last, refl, (somewhere, refl)))),
+    )
 some_aim (k.mark b) p i z = absurd cc
 some_aim (k.number l) p i z = absurd cc
 some_aim (k.system n) p i z = absurd cc

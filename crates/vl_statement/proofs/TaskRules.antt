@@ -1,24 +1,23 @@
 -- The rules of system tasks.
-use Rattle.std.proofs.Common.{◌≡◌, ◌≤◌, ◌+◌, ℕ, List, [], ◌∷◌, ◌++◌, length, refl, sym, ◌∙◌, ap, subst, append_assoc, arith}
+use Rattle.std.proofs.Common.{◌≡◌, ◌≤◌, ◌+◌, ℕ, List, [], ◌∷◌, ◌++◌, refl, sym, ◌∙◌, ap, subst, append_assoc}
 use Rattle.std.specs.Prelude.{Bool, true, false}
 use Rattle.vl_tree.specs.declared.token.Mark.TheVariants as m
 use Rattle.vl_tree.specs.declared.token.System.TheVariants as s
 use Rattle.vl_tree.specs.Token as k
 use Rattle.vl_tree.specs.Syntax.{Place, Expr, Exprs, no_expr, Print, display, write, Printed, Stopped}
-use Rattle.vl_tree.specs.Syntax.{Stmt, empty, block, conditional, select, loop, assign, print, file_print, stop, fatal, no_branch}
+use Rattle.vl_tree.specs.Syntax.{Stmt, conditional, print, file_print, stop, fatal, no_branch}
 use Rattle.vl_tree.specs.Placed.{Placed, at, kind_of}
 use Rattle.vl_tree.specs.Piece.{mark}
 use Rattle.vl_tree.specs.Expressions.{expr_at}
 use Rattle.vl_tree.specs.Statements.{printed_at, stopped_at, print_name, NoElse}
 use Rattle.vl_tree.specs.Depth.{expr_depths, more_exprs_depths, printed_depths, stopped_depths}
-use Rattle.vl_read.specs.declared.fault.Fault.{Fault}
-use Rattle.vl_read.specs.Reading.{Took, Refuses, Any, Both, BothDepths}
-use Rattle.vl_read.specs.Tokens.{one, one_deep, Not}
+use Rattle.vl_read.specs.Reading.{Took, Any, Both, BothDepths}
+use Rattle.vl_read.specs.Tokens.{one, one_deep}
 use Rattle.vl_read.proofs.Pieces.{Productive, link_any, took_empty}
 use Rattle.vl_read.proofs.Leads.{Leads, leads_on, leads_less, leads_as, leads_after}
-use Rattle.vl_read.proofs.TokenRules.{somewhere, took_kind, link_kind, link_kind_first}
+use Rattle.vl_read.proofs.TokenRules.{somewhere, link_kind, link_kind_first}
 use Rattle.vl_expr.specs.Ends.{EndsExpr, EndsList}
-use Rattle.vl_expr.proofs.Common.{some_expr, close_ends, comma_ends, close_list}
+use Rattle.vl_expr.proofs.Common.{some_expr, comma_ends, close_list}
 use Rattle.vl_statement.specs.Parts.{after, after_depths, NoParen, format_at, format_depths, empty_list_at, empty_list_depths}
 use Rattle.vl_statement.proofs.Steps.{Joint, both_some}
 use Rattle.vl_statement.proofs.PartRules.{some_kind}
@@ -217,9 +216,11 @@ module _ (d : ℕ) (p : Place) where
 
   file_out : (u : Stmt) (us z : List Placed) → IsHead (k.system s.Fwrite) p u → tail_at u us z
       → (x : Unit {0} × (Expr × (Unit {0} × (Form × (Unit {0} × Unit {0}))))) × F1 x us z × (u ≡ make_file x)
-  file_out (file_print q e o t es) us z h (m5, (m1, i1, (m4, (m2, i2, (m3, i3, (a1, i4, i5))), i6)), i7) =
-      ((tt, (e, (tt, ((o, t, es), (tt, tt))))), (m1, i1, (m2, i2, (m3, i3, (m4, (a1, i4, i5), (m5, i6, i7))))),
-      ap (λ w. file_print w e o t es) (sym h.1))
+  file_out (file_print q e o t es) us z h (m5, (m1, i1, (m4, (m2, i2, (m3, i3, (a1, i4, i5))), i6)), i7) = (
+    (tt, (e, (tt, ((o, t, es), (tt, tt))))),
+    (m1, i1, (m2, i2, (m3, i3, (m4, (a1, i4, i5), (m5, i6, i7))))),
+    ap (λ w. file_print w e o t es) (sym h.1),
+  )
   file_out (print q display b) us z h r = let e = h.0 in absurd cc
   file_out (print q write b) us z h r = let e = h.0 in absurd cc
   file_out (conditional no_branch o) us z h r = absurd h

@@ -1,6 +1,6 @@
 -- The plain trees of the program's statements, and of their lists.
-use Rattle.std.proofs.Common.{◌≡◌, List, [], ◌∷◌, ◌++◌, rules, map, refl, ap, sym, ◌∙◌}
-use Rattle.std.specs.Prelude.{Bool, Option, Some, None}
+use Rattle.std.proofs.Common.{◌≡◌, List, [], ◌∷◌, ◌++◌, rules, map, refl, ap, ◌∙◌}
+use Rattle.std.specs.Prelude.{Bool, Option}
 use Rattle.std.specs.Option.{option_map}
 use Rattle.dt_core.specs.declared.place.Place.{Place}
 use Rattle.vl_tree.specs.declared.expression.Expr.{Expr}

@@ -1,6 +1,6 @@
 -- Parts of the rules of statements that one reader reads at a time (IEEE 1364-2005, A.6), and the lists of the program that are read so
 -- far with what comes after them. This project's own.
-use Rattle.std.specs.Prelude.{ℕ, ◌+◌, ◌≡◌, ◌≤◌, Bool, true, false, List, [], ◌∷◌, ◌++◌, Option, Some, None, Result}
+use Rattle.std.specs.Prelude.{ℕ, ◌+◌, ◌≡◌, ◌≤◌, Bool, List, [], ◌∷◌, ◌++◌, Option, Some, None, Result}
 use Rattle.dt_core.specs.declared.place.Place as place_code
 use Rattle.vl_tree.specs.declared.token.Key.TheVariants as w
 use Rattle.vl_tree.specs.declared.token.Mark.TheVariants as m
@@ -15,9 +15,8 @@ use Rattle.vl_tree.specs.declared.statement.Arm.TheVariants as arm
 use Rattle.vl_statement.specs.declared.simple.Format as format_code
 use Rattle.vl_tree.specs.Token.{Kind}
 use Rattle.vl_tree.specs.Token as k
-use Rattle.vl_tree.specs.Syntax.{Place, Expr, Exprs, Assignment, Stmt, assign, Stmts, no_stmt, more_stmt}
-use Rattle.vl_tree.specs.Syntax.{Branches, no_branch, more_branch, Otherwise, Arms, no_arm, more_arm, default_arm}
-use Rattle.vl_tree.specs.SyntaxView as view
+use Rattle.vl_tree.specs.Syntax.{Place, Expr, Exprs, Assignment, Stmt, assign, Stmts, more_stmt}
+use Rattle.vl_tree.specs.Syntax.{Branches, more_branch, Otherwise, Arms, more_arm, default_arm}
 use Rattle.vl_tree.specs.SyntaxView.{place, expr, stmt, assignment, printed, stopped}
 use Rattle.vl_tree.specs.Placed.{Placed, at, kind_of}
 use Rattle.vl_tree.specs.Piece.{Piece, ◌then◌, nowhere, given, kind_at, word, word_at, mark, mark_at, where_true}

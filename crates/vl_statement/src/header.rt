@@ -13,11 +13,7 @@ use vl_tree::token::Mark;
 
 /// `(variable = first; condition; stepped = step)` (IEEE 1364-2005, A.6.8), from after `for` on: the parentheses stand
 /// at this depth.
-pub fn read_loop<'a>(
-    alloc: Global,
-    at: Cursor<'a>,
-    depth: u32,
-) -> Result<(Loop, Cursor<'a>), Fault>
+pub fn read_loop<'a>(alloc: Global, at: Cursor<'a>, depth: u32) -> Result<(Loop, Cursor<'a>), Fault>
     requires low { depth ≤ 200 }
     ensures reads { ReadsLoop depth at.entry result }
     ensures shorter { IfOk result (λ x. length x.1 < length at.entry) }

@@ -15,11 +15,7 @@ use vl_tree::item::Valued;
 use vl_tree::token::Mark;
 
 /// A name, at this depth.
-pub fn read_name<'a>(
-    alloc: Global,
-    at: Cursor<'a>,
-    depth: u32,
-) -> Result<(Name, Cursor<'a>), Fault>
+pub fn read_name<'a>(alloc: Global, at: Cursor<'a>, depth: u32) -> Result<(Name, Cursor<'a>), Fault>
     requires low { depth ≤ 201 }
     ensures reads { ReadsName depth at.entry result }
     ensures shorter { IfOk result (λ x. length x.1 < length at.entry) }

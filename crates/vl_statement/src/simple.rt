@@ -87,11 +87,7 @@ fn read_values<'a>(
 }
 
 // A format and its values.
-fn read_format<'a>(
-    alloc: Global,
-    at: Cursor<'a>,
-    depth: u32,
-) -> Result<(Format, Cursor<'a>), Fault>
+fn read_format<'a>(alloc: Global, at: Cursor<'a>, depth: u32) -> Result<(Format, Cursor<'a>), Fault>
     requires low { depth ≤ 201 }
     ensures reads { ReadsFormat depth at.entry result }
     ensures shorter { IfOk result (λ x. length x.1 < length at.entry) }
@@ -235,11 +231,7 @@ pub fn read_stop<'a>(
 }
 
 /// `$fatal`, from after it on.
-pub fn read_fatal<'a>(
-    at: Cursor<'a>,
-    depth: u32,
-    place: Place,
-) -> Result<(Stmt, Cursor<'a>), Fault>
+pub fn read_fatal<'a>(at: Cursor<'a>, depth: u32, place: Place) -> Result<(Stmt, Cursor<'a>), Fault>
     requires low { depth ≤ 200 }
     ensures reads { ReadsAfter (k.system s.Fatal) (view.place place) depth at.entry result }
     ensures shorter { IfOk result (λ x. length x.1 < length at.entry) }

@@ -173,11 +173,7 @@ fn read_select<'a>(
 
 // An arm: labels or `default`, and its statement, which is deeper by one.
 #[cycle(statement)]
-fn read_arm<'a>(
-    alloc: Global,
-    at: Cursor<'a>,
-    depth: u32,
-) -> Result<(Arm<Stmt>, Cursor<'a>), Fault>
+fn read_arm<'a>(alloc: Global, at: Cursor<'a>, depth: u32) -> Result<(Arm<Stmt>, Cursor<'a>), Fault>
     requires low { depth ≤ 201 }
     ensures reads { ReadsArm depth at.entry result }
     ensures shorter { IfOk result (λ x. length x.1 < length at.entry) }

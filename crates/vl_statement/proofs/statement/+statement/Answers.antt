@@ -110,7 +110,7 @@ read_block-loop-after-init t c =
 
 pub read_block-returns-in-Some-clause-reads : goal.read_block-returns-in-Some-clause-reads
 read_block-returns-in-Some-clause-reads t c =
-    rw (view.stmt-block c.args.place c.loop-after.label-1 c.loop-after.body)
+    rw view.stmt-block
     (c.loop-after.invariant.took no_stmt _ (rule_block.end_took c.args.depth c.requires.low _ c.loop-after.rest _ c.in-Some.ensures.reads))
 
 pub read_block-returns-in_err-statement-in-None-clause-reads : goal.read_block-returns-in_err-statement-in-None-clause-reads
@@ -139,7 +139,7 @@ read_conditional-returns-in_err-first-clause-reads t c =
 pub read_conditional-loop-after-init : goal.read_conditional-loop-after-init
 read_conditional-loop-after-init t c =
     let k = (after_part (rule_branch.branch_next c.args.depth (plain.place c.args.place)) (rule_branch.conditional_parts c.args.depth (plain.place c.args.place) c.args.at) _ _ c.in_ok-first.ensures.reads) in
-    let e : c.push.new.self ≡ c.in_ok-first.first ∷ [] = c.in_ok-push.ensures.ok ∙ ap (λ w. w ++ c.in_ok-first.first ∷ []) c.new-branches.ensures in
+    let e : c.push.new.self ≡ c.in_ok-first.first ∷ [] = ◌∙◌ {a = c.push.new.self} c.in_ok-push.ensures.ok (ap (λ w. w ++ c.in_ok-first.first ∷ []) c.new-branches.ensures) in
     record {
       took = λ bs o rest p. rw e (k.took (bs, o) rest p);
       fails = k.fails;
@@ -196,7 +196,7 @@ read_select-returns-in_err-first-clause-reads t c =
 pub read_select-loop-after-init : goal.read_select-loop-after-init
 read_select-loop-after-init t c =
     let k = (after_part (rule_arm.arm_closed c.args.depth) (after_part (rule_arm.selector_next c.args.depth (plain.place c.args.place) c.args.wild) (rule_arm.select_parts c.args.depth (plain.place c.args.place) c.args.wild c.args.at) _ _ c.in_ok-selector.ensures.reads) _ _ c.in_ok-first.ensures.reads) in
-    let e : c.push.new.self ≡ c.in_ok-first.first ∷ [] = c.in_ok-push.ensures.ok ∙ ap (λ w. w ++ c.in_ok-first.first ∷ []) c.new-arms.ensures in
+    let e : c.push.new.self ≡ c.in_ok-first.first ∷ [] = ◌∙◌ {a = c.push.new.self} c.in_ok-push.ensures.ok (ap (λ w. w ++ c.in_ok-first.first ∷ []) c.new-arms.ensures) in
     record {
       took = λ arms rest p. rw e (k.took arms rest p);
       fails = k.fails;
@@ -205,7 +205,7 @@ read_select-loop-after-init t c =
 
 pub read_select-returns-in-Some-clause-reads : goal.read_select-returns-in-Some-clause-reads
 read_select-returns-in-Some-clause-reads t c =
-    rw (view.stmt-select c.args.place c.args.wild c.loop-after.selector-1 c.loop-after.arms)
+    rw view.stmt-select
     (c.loop-after.invariant.took no_arm _ (rule_arm.endcase_took c.args.depth c.requires.low _ c.loop-after.rest _ c.in-Some.ensures.reads))
 
 pub read_select-returns-in_err-arm-in-None-clause-reads : goal.read_select-returns-in_err-arm-in-None-clause-reads

@@ -2,7 +2,7 @@ use Rattle.std.proofs.Common.{◌≤◌, ◌<◌, ◌+◌, ◌*◌, List, length
 use Rattle.vl_tree.specs.declared.token.Key.TheVariants as w
 use Rattle.vl_tree.specs.Token as k
 use Rattle.vl_tree.specs.Placed.{Placed}
-use Rattle.vl_tree.specs.Syntax.{Stmt, block, conditional, select, Stmts, Branches, Otherwise, Arms}
+use Rattle.vl_tree.specs.Syntax.{block, conditional, select, Stmts, Branches, Otherwise, Arms}
 use Rattle.vl_tree.specs.SyntaxView as view
 use Rattle.vl_tree.specs.Statements.{case_word, NoElse}
 use Rattle.std.specs.Option.{option_map}
