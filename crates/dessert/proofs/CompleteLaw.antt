@@ -7,10 +7,11 @@ use Rattle.vl_meaning.specs.Objects.{data_inputs}
 use Rattle.vl_front.specs.OneModule.{IsOneModule}
 use Rattle.stim.specs.Stimulus.{IsStimulus}
 use Rattle.dt_io.specs.Files.{IsLong}
+use Rattle.dt_core.specs.declared.limits.TheConstants.{MAX_FILE}
 use Rattle.dessert.specs.Outside.{FilesAt, Outside}
 use Rattle.dessert.specs.Answer.{Status, quiet, failure, usage, design, input, file, reading, writing, reporting, memory, number, allowed, bad, refused, Loaded, Answers}
 use Rattle.dessert.specs.Words.{Job, words_of}
-use Rattle.dessert.specs.Sources.{most_file, design_text}
+use Rattle.dessert.specs.Sources.{design_text}
 use Rattle.dessert.specs.Outcome.{layers, Design, AreDesign, AreRefused, Judges}
 use Rattle.dessert.specs.Complete.{AllWell}
 
@@ -28,7 +29,7 @@ took_front (Some xs) None whole bytes e c = absurd c
 took_front (Some xs) (Some ys) whole bytes e c = (ys, (let s : whole ≡ xs = cc in s ∙ c))
 
 -- a file within the limit isn't too long
-not_long : (x : Option (List ℕ)) (bytes : List ℕ) → x ≡ Some bytes → length bytes ≤ most_file → IsLong x most_file → ⊥
+not_long : (x : Option (List ℕ)) (bytes : List ℕ) → x ≡ Some bytes → length bytes ≤ MAX_FILE → IsLong x MAX_FILE → ⊥
 not_long None bytes e l h = h
 not_long (Some xs) bytes e l h = let s : xs ≡ bytes = cc in let k = ap (λ (b : List ℕ). length b) s in absurd (omega (arith, k))
 
@@ -48,7 +49,7 @@ module _ (shelf : FilesAt) (is_told : shelf.told ≡ true) where
 
   -- none of the files that were loaded is too long
   pub none_long : (before : List (List ℕ)) (name : List ℕ) (after files : List (List ℕ)) → Loaded shelf (before ++ name ∷ after) files
-      → IsLong (shelf.content name) most_file → ⊥
+      → IsLong (shelf.content name) MAX_FILE → ⊥
   none_long [] name after [] h l = absurd h
   none_long [] name after (g ∷ files) h l = not_long (shelf.content name) g (h.0 is_told) h.1 l
   none_long (b ∷ before) name after [] h l = absurd h
@@ -89,7 +90,7 @@ module _ (words : List (List ℕ)) (old new : Outside) (w : AllWell words old ne
   no_input h true job bytes d e c a j = no_short job h bytes d e c (a refl) j
   no_input h false job bytes d e c a j = no_other job h bytes d e c j
 
-  no_file : (before : List (List ℕ)) (name : List ℕ) (after : List (List ℕ)) (job : Job) → words_of words ≡ allowed job → job.files ≡ before ++ name ∷ after → IsLong (old.files.content name) most_file → ⊥
+  no_file : (before : List (List ℕ)) (name : List ℕ) (after : List (List ℕ)) (job : Job) → words_of words ≡ allowed job → job.files ≡ before ++ name ∷ after → IsLong (old.files.content name) MAX_FILE → ⊥
   no_file before name after job e n l =
       let h : Loaded old.files job.files w.files = subst (λ (x : Job). Loaded old.files x.files w.files) (sym (same_job job e)) w.loaded in
       none_long old.files w.is_told before name after w.files (subst (λ (x : List (List ℕ)). Loaded old.files x w.files) n h) l

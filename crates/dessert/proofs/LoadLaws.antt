@@ -3,10 +3,11 @@ use Rattle.std.proofs.Common.{◌≡◌, ℕ, zero, suc, ◌+◌, ◌*◌, ◌�
 use Rattle.std.proofs.Math.Seq.{drop-cons, take-length}
 use Rattle.std.proofs.lemmas.List.{take_more, take-append-drop, map-append}
 use Rattle.std.specs.Prelude.{Some, Ok, slice_index_or}
+use Rattle.dt_core.specs.declared.limits.TheConstants.{MAX_FILE}
 use Rattle.dessert.specs.Outside.{FilesAt}
 use Rattle.dessert.specs.Answer.{Loaded, HasFailed, IsTooLong}
 use Rattle.dessert.specs.Named.{named}
-use Rattle.dessert.specs.Sources.{most_file, ends_line, closed, design_text, line_count}
+use Rattle.dessert.specs.Sources.{ends_line, closed, design_text, line_count}
 use Rattle.dessert.specs.Calls.Loading.{LoadsOne, IsLoaded, IsFront}
 
 -- a file is closed by one byte at most
@@ -31,7 +32,7 @@ pub long_since : (shelf seen now : FilesAt) (name : List ℕ) → seen ≡ shelf
 long_since shelf seen now name same h = subst (λ (x : FilesAt). IsTooLong x now name) same h
 
 module _ (shelf : FilesAt) where
-  loaded_more : (names files : List (List ℕ)) (name file : List ℕ) → Loaded shelf names files → (IsTrue shelf.told → shelf.content name ≡ Some file) → length file ≤ most_file
+  loaded_more : (names files : List (List ℕ)) (name file : List ℕ) → Loaded shelf names files → (IsTrue shelf.told → shelf.content name ≡ Some file) → length file ≤ MAX_FILE
       → Loaded shelf (names ++ name ∷ []) (files ++ file ∷ [])
   loaded_more [] [] name file l t n = (t, n, tt)
   loaded_more [] (f ∷ files) name file l t n = absurd l
@@ -45,7 +46,7 @@ module _ (shelf : FilesAt) where
       pub loaded : Loaded shelf (take i names) files
       pub text_is : text ≡ design_text files
       pub counts_are : counts ≡ map line_count files
-      pub short : length text ≤ (most_file + 1) * i
+      pub short : length text ≤ (MAX_FILE + 1) * i
 
     pub none_yet : Front 0 [] []
     none_yet = record { files = []; loaded = tt; text_is = refl; counts_are = refl; short = omega arith }

@@ -2,10 +2,10 @@
 -- The layers below stand here as one parameter: the words, the accepted designs, and what comes of a design and its input.
 use Rattle.std.specs.Prelude.{◌≡◌, ℕ, ◌≤◌, Bool, true, false, IsTrue, List, [], ◌∷◌, ◌++◌, length, take, Some, None, ◌⊎◌}
 use Rattle.std.specs.Io.KnownBytes.{Appends, Consumes, IsAtEnd, Keeps}
+use Rattle.dt_core.specs.declared.limits.TheConstants.{MAX_FILE}
 use Rattle.dt_core.specs.Causes.{Rose, AppendsPart}
 use Rattle.dt_io.specs.Files.{IsLong}
 use Rattle.dessert.specs.Outside.{FilesAt, Outside}
-use Rattle.dessert.specs.Sources.{most_file}
 use Rattle.dessert.specs.Report.{usage_text, file_failed_text, file_long_text, read_failed_text, write_failed_text}
 
 -- ---- statuses
@@ -67,7 +67,7 @@ pub record Layers : Type 1 where
 abbrev pub Loaded : FilesAt → List (List ℕ) → List (List ℕ) → Type 0
 Loaded shelf [] [] = Unit {0}
 Loaded shelf (name ∷ names) (bytes ∷ files) =
-    (IsTrue shelf.told → shelf.content name ≡ Some bytes) × (length bytes ≤ most_file) × Loaded shelf names files
+    (IsTrue shelf.told → shelf.content name ≡ Some bytes) × (length bytes ≤ MAX_FILE) × Loaded shelf names files
 Loaded shelf _ _ = ⊥
 
 -- the load of a file failed: the count rose, and where each file that is there can be read, none has this name
@@ -77,7 +77,7 @@ HasFailed old new name = Rose old.faults new.faults × (IsTrue old.reliable → 
 -- a file is longer than the limit, and the count stands; where contents are not known the count rose
 abbrev pub IsTooLong : FilesAt → FilesAt → List ℕ → Type 0
 IsTooLong old new name =
-    (IsTrue old.told → IsLong (old.content name) most_file × (new.faults ≡ old.faults))
+    (IsTrue old.told → IsLong (old.content name) MAX_FILE × (new.faults ≡ old.faults))
     × (old.told ≡ false → Rose old.faults new.faults)
 
 module _ (L : Layers) (words : List (List ℕ)) (old new : Outside) where

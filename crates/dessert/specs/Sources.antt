@@ -2,10 +2,6 @@
 use Rattle.std.specs.Prelude.{ℕ, zero, suc, ◌+◌, ◌-◌, ◌==◌, ◌≡◌, ◌<◌, ◌≤◌, nat_le, Bool, false, if◌then◌else◌, List, [], ◌∷◌, ◌++◌, length, map, take, slice_index, slice_index_or}
 use Rattle.std.specs.List.{count_by}
 
--- the most bytes of a file
-abbrev pub most_file : ℕ
-most_file = 4194304
-
 -- ---- the text
 
 -- whether the bytes end with LF

@@ -2,17 +2,14 @@
 use Rattle.std.specs.Prelude.{ℕ, ◌+◌, ◌-◌, ◌*◌, ◌==◌, ◌≤◌, max, List}
 use Rattle.std.specs.List.{count_by}
 use Rattle.std.specs.Io.KnownBytes.{Consumes}
+use Rattle.dessert.specs.declared.window.TheConstants.{SHORTEST_PERIOD}
 use Rattle.dessert.specs.Outside.{SourceAt}
 use Rattle.dessert.specs.Answer.{Status, quiet, failure, usage, design, input, file, reading, writing, reporting, memory, Words, allowed, bad}
 use Rattle.dessert.specs.Words.{Job}
 
--- a state is copied once in so many rows, so that states are copied seldom under a small lag too
-abbrev pub shortest_period : ℕ
-shortest_period = 64
-
 -- the rows from one copy of a state to the next, under a lag
 abbrev pub period : ℕ → ℕ
-period lag = max shortest_period (lag + 1)
+period lag = max SHORTEST_PERIOD (lag + 1)
 
 -- the most rows that are kept under a lag: those since the last copy but one
 abbrev pub most_kept : ℕ → ℕ

@@ -2,6 +2,7 @@
 use Rattle.std.specs.Prelude.{ℕ, ◌*◌, ◌+◌, ◌-◌, ◌==◌, Bool, true, false, not, ◌&&◌, ◌||◌, if◌then◌else◌, nat_le, List, [], ◌∷◌, length, fold, take, drop, bytes_eq, codes, Option, Some, None}
 use Rattle.std.specs.List.{list_any, list_all}
 use Rattle.std.specs.Char.{is_ascii_digit}
+use Rattle.dt_core.specs.declared.limits.TheConstants.{MAX_FILES, MAX_LAG, DEFAULT_LAG}
 use Rattle.dessert.specs.Answer.{Words, allowed, bad}
 
 -- what words ask for: how many cycles before the failure the window begins, and the files of the design
@@ -11,17 +12,6 @@ pub record Job : Type 0 where
 
 abbrev pub job : ℕ → List (List ℕ) → Job
 job lag files = record { lag = lag; files = files }
-
--- the lag where none is set
-abbrev pub default_lag : ℕ
-default_lag = 64
-
--- the greatest lag, and the most files
-abbrev pub most_lag : ℕ
-most_lag = 16384
-
-abbrev pub most_files : ℕ
-most_files = 16
 
 -- ---- numbers
 
@@ -35,7 +25,7 @@ decimal_of ds = fold (λ n d. 10 * n + (d - 48)) 0 ds
 
 -- a lag is a decimal of at most 16,384
 abbrev pub is_lag : List ℕ → Bool
-is_lag ds = is_decimal ds && nat_le (decimal_of ds) most_lag
+is_lag ds = is_decimal ds && nat_le (decimal_of ds) MAX_LAG
 
 abbrev pub some_when : Bool → ℕ → Option ℕ
 some_when true n = Some n
@@ -53,7 +43,7 @@ is_file_word word = not (length word == 0) && not (list_any (λ b. b == 61) word
 
 -- 1 to 16 file words
 abbrev pub are_file_words : List (List ℕ) → Bool
-are_file_words words = nat_le 1 (length words) && (nat_le (length words) most_files && list_all is_file_word words)
+are_file_words words = nat_le 1 (length words) && (nat_le (length words) MAX_FILES && list_all is_file_word words)
 
 -- the job of a lag, if there is one, and file words
 abbrev pub asked : Option ℕ → List (List ℕ) → Words Job
@@ -63,7 +53,7 @@ asked (Some lag) files = if are_file_words files then allowed (job lag files) el
 -- a setting of the lag and file words, or file words alone
 abbrev pub settings_of : List (List ℕ) → Words Job
 settings_of [] = bad
-settings_of (first ∷ more) = if is_file_word first then asked (Some default_lag) (first ∷ more) else asked (lag_of first) more
+settings_of (first ∷ more) = if is_file_word first then asked (Some DEFAULT_LAG) (first ∷ more) else asked (lag_of first) more
 
 -- `sim`, at most one setting of the lag, and 1 to 16 file words
 abbrev pub words_of : List (List ℕ) → Words Job

@@ -1,8 +1,9 @@
 //! A run over rows as they come: it keeps its state, the first failure, and the last rows up to it.
 
-ghost use Rattle.std.specs.Prelude.{◌≡◌, ◌<◌, ◌≤◌, ◌^◌, ◌+◌, ◌++◌, ◌∷◌, [], ℕ, List, length, slice_index, IfOk, OnOk, IsSome, MatchOption, Some, None};
+ghost use Rattle.std.specs.Prelude.{◌≡◌, ◌<◌, ◌≤◌, ◌^◌, ◌+◌, ◌++◌, ◌∷◌, [], ℕ, List, length, slice_index, IfOk, OnOk};
+ghost use Rattle.std.specs.Prelude.{IsSome, MatchOption, Some, None};
+ghost use Rattle.dt_core.specs.declared.limits.TheConstants.{MAX_LAG};
 ghost use Rattle.flat_ir.specs.FlatRun as flat_run;
-ghost use Rattle.dessert.specs.Words.{most_lag};
 ghost use Rattle.dessert.specs.Steps as bound;
 ghost use Rattle.dessert.specs.Calls.Ran.{HasRun, RanTo, Takes};
 
@@ -46,13 +47,20 @@ impl<'a> Model for Run<'a> {
 
     ghost Value = { progress.Progress };
 
-    ghost view = { λ r. record { flat = r.sim.flat; cycle = r.sim.cycle; state = r.sim.state; cycles = r.cycles; failure = r.failure; window = r.window } };
+    ghost view = { λ r. record {
+      flat = r.sim.flat;
+      cycle = r.sim.cycle;
+      state = r.sim.state;
+      cycles = r.cycles;
+      failure = r.failure;
+      window = r.window;
+    } };
 }
 
 impl<'a> Run<'a> {
     /// The run over no row yet. It will keep the rows that a window of this lag needs.
     pub fn start(alloc: Global, flat: &'a Flat, lag: u32) -> Result<Run<'a>, NoMemory>
-        requires { lag ≤ most_lag }
+        requires { lag ≤ MAX_LAG }
         ensures ran { IfOk result (λ r. RanTo flat.now [] r) }
         ensures flat { IfOk result (λ r. r.flat ≡ flat.now) }
         ensures period { IfOk result (λ r. r.window.period ≡ bound.period lag) }

@@ -4,13 +4,12 @@ ghost use Rattle.std.specs.Prelude.{◌≡◌, ◌≤◌, ◌+◌, ◌++◌, ◌
 ghost use Rattle.std.specs.List.{count_by};
 ghost use Rattle.dt_io.specs.declared.outside.LoadFault.TheVariants as load;
 ghost use Rattle.dessert.specs.Outside.{files_at};
-ghost use Rattle.dessert.specs.Words.{most_files};
 ghost use Rattle.dessert.specs.Named.{named};
 ghost use Rattle.dessert.specs.Sources as sources;
-ghost use Rattle.dessert.specs.Sources.{most_file, closed, spot_in, SpotsAreRight};
+ghost use Rattle.dessert.specs.Sources.{closed, spot_in, SpotsAreRight};
 ghost use Rattle.dessert.specs.Calls.Loading.{LoadsOne, IsLoaded, NotLoaded};
 
-use dt_core::limits::MAX_FILE;
+use dt_core::limits::{MAX_FILE, MAX_FILES};
 use dt_io::outside::{Files, LoadFault};
 use std::alloc::Global;
 use std::marker::Model;
@@ -91,7 +90,7 @@ pub fn load_sources<'a, F: Files>(
     names: &'a [&'a str],
     files: &mut F,
 ) -> Result<Sources<'a>, SourcesFault<'a>>
-    requires few { length names.now ≤ most_files }
+    requires few { length names.now ≤ MAX_FILES }
     ensures loaded { let seen = files_at F.Files in
         IfOk result (λ s. IsLoaded (seen files.old) (named names.now) s.text.items s.origins.counts) }
     ensures names { IfOk result (λ s. s.origins.names ≡ named names.now) }
@@ -118,7 +117,7 @@ pub fn load_sources<'a, F: Files>(
 
 // Appends a file to the text, closed, and counts its lines.
 fn load_one<F: Files>(files: &mut F, name: &str, text: &mut Vec<u8>) -> Result<u32, LoadFault>
-    requires room { length text.old.items + (most_file + 1) ≤ u32.MAX }
+    requires room { length text.old.items + (MAX_FILE + 1) ≤ u32.MAX }
     ensures loads { let seen = files_at F.Files in
         LoadsOne (seen files.old) (seen files.new) name.now text.old.items text.new.items result }
     ensures same { OnOk result (files_at F.Files files.new ≡ files_at F.Files files.old) }

@@ -1,7 +1,8 @@
 //! The texts of the report.
 
 ghost use Rattle.std.specs.Prelude.{◌≡◌, ◌++◌, ◌∷◌, [], OnOk, IfOk, codes, decimal, map, ◌-◌};
-ghost use Rattle.dessert.specs.Report.{failure_text, quiet_text, place_text, stop_of, stop_text, stops_text, line_end, fault_text, file_failed_text, file_long_text};
+ghost use Rattle.dessert.specs.Report.{failure_text, quiet_text, place_text, stop_of, stop_text, stops_text, line_end};
+ghost use Rattle.dessert.specs.Report.{fault_text, file_failed_text, file_long_text};
 ghost use Rattle.dessert.specs.Sources.{spot as spec_spot};
 
 use crate::sources::{Origins, Spot, ends_line};

@@ -1,11 +1,12 @@
 //! The top call.
 
 ghost use Rattle.std.specs.Prelude.{◌≡◌, ◌≤◌, ◌<◌, ◌+◌, map, length, List, ℕ, IfOk, Some};
+ghost use Rattle.dt_core.specs.declared.limits.TheConstants.{MAX_LAG};
 ghost use Rattle.flat_ir.specs.Names.{input_names};
 ghost use Rattle.vl_front.specs.Reads.{Reads};
 ghost use Rattle.dessert.specs.Outside.{FilesAt, source_at, sink_at, streams_at, outside_at};
 ghost use Rattle.dessert.specs.Answer.{Answers};
-ghost use Rattle.dessert.specs.Words.{words_of, most_lag};
+ghost use Rattle.dessert.specs.Words.{words_of};
 ghost use Rattle.dessert.specs.Named.{named};
 ghost use Rattle.dessert.specs.Outcome.{layers};
 ghost use Rattle.dessert.specs.Report.{failure_text, stop_of};
@@ -101,7 +102,7 @@ fn run_sources<S: Source, V: Sink, T: Sink, L: Ledger>(
     steps: &mut Steps<L>,
 ) -> Ended
     requires text { length sources.text.items < u32.MAX }
-    requires lag { lag ≤ most_lag }
+    requires lag { lag ≤ MAX_LAG }
     ensures answers { let seen = streams_at S.Source V.Sink T.Sink in
         (words : List (List ℕ)) (files : FilesAt)
         → LedToText words files lag sources.entry.origins sources.entry.text.items
@@ -143,7 +144,7 @@ fn run_design<S: Source, V: Sink, T: Sink, L: Ledger>(
     steps: &mut Steps<L>,
 ) -> Ended
     requires inputs { flat.now.inputs ≡ length (input_names flat.now.signals) }
-    requires lag { lag ≤ most_lag }
+    requires lag { lag ≤ MAX_LAG }
     ensures answers { let seen = streams_at S.Source V.Sink T.Sink in
         (words : List (List ℕ)) (files : FilesAt) → LedToDesign words files lag origins.now flat.now
         → Answers layers words (seen files stimulus.old out.old report.old steps.old)

@@ -5,8 +5,8 @@
 //! state is copied once in `period` cycles.
 
 ghost use Rattle.std.specs.Prelude.{◌≡◌, ◌≤◌, ◌<◌, ◌+◌, ◌++◌, ◌∷◌, [], ℕ, List, length, slice_index, IfOk, OnOk};
+ghost use Rattle.dt_core.specs.declared.limits.TheConstants.{MAX_LAG};
 ghost use Rattle.flat_ir.specs.FlatRun as flat_run;
-ghost use Rattle.dessert.specs.Words.{most_lag};
 ghost use Rattle.dessert.specs.Steps as bound;
 ghost use Rattle.dessert.specs.Calls.Kept.{Holds};
 
@@ -38,7 +38,16 @@ impl Model for Window {
 
     ghost Value = { progress.Window };
 
-    ghost view = { λ w. record { period = w.period; end = w.end; base = w.base; older = w.older.items; older_count = w.older_count; middle = w.middle; newer = w.newer.items; newer_count = w.newer_count } };
+    ghost view = { λ w. record {
+      period = w.period;
+      end = w.end;
+      base = w.base;
+      older = w.older.items;
+      older_count = w.older_count;
+      middle = w.middle;
+      newer = w.newer.items;
+      newer_count = w.newer_count;
+    } };
 }
 
 /// Kept rows that follow one another: how many, and their values, a byte each.
@@ -51,7 +60,7 @@ pub struct Part<'a> {
 impl Window {
     /// The window of no rows yet, at a design's first state; it will keep `lag` rows before the last one, and more.
     pub fn start(alloc: Global, first: &[u128], lag: u32) -> Result<Window, NoMemory>
-        requires { lag ≤ most_lag }
+        requires { lag ≤ MAX_LAG }
         ensures holds { IfOk result (λ w. (flat : flat_run.Flat) → first.now ≡ flat_run.flat_start flat
             → Holds flat [] w) }
         ensures period { IfOk result (λ w. w.period ≡ bound.period lag) }

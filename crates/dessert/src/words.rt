@@ -7,13 +7,7 @@ ghost use Rattle.dessert.specs.Answer.{allowed, bad};
 ghost use Rattle.dessert.specs.Words as spec;
 ghost use Rattle.dessert.specs.Named.{named};
 
-use dt_core::limits::MAX_FILES;
-
-/// The lag where none is set, in cycles.
-const DEFAULT_LAG: u32 = 64;
-
-/// The greatest lag, in cycles.
-const MAX_LAG: u32 = 16384;
+use dt_core::limits::{DEFAULT_LAG, MAX_FILES, MAX_LAG};
 
 /// What the words ask for: how many cycles before the failure the window begins, and the files of the design.
 #[derive(Clone, Copy)]
@@ -26,8 +20,8 @@ pub struct Job<'a> {
 pub fn read_words<'a>(words: &'a [&'a str]) -> Option<Job<'a>>
     ensures words { let asked = spec.words_of (named words.now) in
         MatchOption result (asked ≡ bad) (λ j. asked ≡ allowed (spec.job j.lag (named j.files.now))) }
-    ensures lag { MatchOption result (Unit {0}) (λ j. j.lag ≤ spec.most_lag) }
-    ensures files { MatchOption result (Unit {0}) (λ j. length j.files.now ≤ spec.most_files) }
+    ensures lag { MatchOption result (Unit {0}) (λ j. j.lag ≤ MAX_LAG) }
+    ensures files { MatchOption result (Unit {0}) (λ j. length j.files.now ≤ MAX_FILES) }
 {
     match words {
         [command, first, more @ ..] if *command == "sim" => {
@@ -43,11 +37,11 @@ pub fn read_words<'a>(words: &'a [&'a str]) -> Option<Job<'a>>
 
 // The job of a lag and files, if they are 1 to 16 file words.
 fn job_of<'a>(lag: u32, files: &'a [&'a str]) -> Option<Job<'a>>
-    requires { lag ≤ spec.most_lag }
+    requires { lag ≤ MAX_LAG }
     ensures words { let asked = spec.asked (Some lag) (named files.now) in
         MatchOption result (asked ≡ bad) (λ j. asked ≡ allowed (spec.job j.lag (named j.files.now))) }
-    ensures lag { MatchOption result (Unit {0}) (λ j. j.lag ≤ spec.most_lag) }
-    ensures files { MatchOption result (Unit {0}) (λ j. length j.files.now ≤ spec.most_files) }
+    ensures lag { MatchOption result (Unit {0}) (λ j. j.lag ≤ MAX_LAG) }
+    ensures files { MatchOption result (Unit {0}) (λ j. length j.files.now ≤ MAX_FILES) }
 {
     if files.is_empty() || files.len() > MAX_FILES || !are_file_words(files) {
         return None;
@@ -70,7 +64,7 @@ fn are_file_words(words: &[&str]) -> bool
 // The lag that a word sets.
 fn read_lag(word: &str) -> Option<u32>
     ensures value { result ≡ spec.lag_of word.now }
-    ensures most { MatchOption result (Unit {0}) (λ lag. lag ≤ spec.most_lag) }
+    ensures most { MatchOption result (Unit {0}) (λ lag. lag ≤ MAX_LAG) }
 {
     let digits = word.as_bytes().strip_prefix(b"lag=")?;
     if !is_decimal(digits) {
@@ -103,7 +97,7 @@ fn are_digits(bytes: &[u8]) -> bool
 
 // The number of these digits, where it is `most` at most.
 fn read_number(digits: &[u8], most: u32) -> Option<u32>
-    requires { most ≤ spec.most_lag }
+    requires { most ≤ MAX_LAG }
     ensures value { let number = spec.decimal_of digits.now in
         result ≡ spec.some_when (nat_le number most) number }
     ensures most { MatchOption result (Unit {0}) (λ number. number ≤ most) }

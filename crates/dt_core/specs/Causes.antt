@@ -2,9 +2,9 @@
 use Rattle.std.specs.Prelude.{ℕ, ◌≡◌, ◌+◌, ◌-◌, ◌^◌, ◌≤◌, ◌<◌, ◌↔◌, ◌⊎◌, min, List, length, take, Contains, Result, OnOk, OnErr, IsErr, Option, MatchResult}
 use Rattle.std.specs.Io.KnownBytes.{Appends, Keeps}
 
--- a count of faults rose in a call: it is greater after it, or stands at its last value
+-- a count of faults rose in a call: it is greater by one, or stands at its last value
 abbrev pub Rose : ℕ → ℕ → Type 0
-Rose before now = min (before + 1) (2 ^ 64 - 1) ≤ now
+Rose before now = now ≡ min (before + 1) (2 ^ 64 - 1)
 
 -- the count never falls: it stays where the call succeeds, and an error comes only where it rose
 pub record HasCause {T E : Type 0} (before now : ℕ) (result : Result T E) : Type 0 where

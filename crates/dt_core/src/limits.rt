@@ -30,8 +30,20 @@ pub const MAX_SIGNALS: u32 = 65_535;
 /// Data inputs of the top module.
 pub const MAX_INPUTS: u32 = 1_024;
 
+/// Bits of all data inputs of the top module together.
+pub const MAX_INPUT_BITS: u32 = 4_096;
+
+/// Words of all memories of a design together.
+pub const MAX_WORDS: u32 = 1_048_576;
+
 /// Statements of a block, unrolled.
 pub const MAX_STATEMENTS: u32 = 65_536;
 
 /// Rows of a stimulus.
 pub const MAX_ROWS: u32 = 1_048_576;
+
+/// Cycles before the failure at which the window may begin.
+pub const MAX_LAG: u32 = 16_384;
+
+/// The lag where the words don't say one.
+pub const DEFAULT_LAG: u32 = 64;

@@ -1,6 +1,7 @@
 //! Sources, sinks and files in memory, which fail exactly in the calls that a list names.
 
-ghost use Rattle.std.specs.Prelude.{◌≡◌, ◌≤◌, ◌<◌, ◌+◌, ◌-◌, [], Some, None, true, IfOk, Err, length, drop, take, min, ◌⊎◌, ◌++◌, MatchOption, ◌≢◌, ◌↔◌};
+ghost use Rattle.std.specs.Prelude.{◌≡◌, ◌≤◌, ◌<◌, ◌+◌, ◌-◌, [], Some, None, true, IfOk, Err, length, drop, take, min, ◌⊎◌};
+ghost use Rattle.std.specs.Prelude.{◌++◌, MatchOption, ◌≢◌, ◌↔◌};
 ghost use Rattle.std.specs.Io.{ReadsAtMost};
 ghost use Rattle.std.specs.Io.KnownBytes.{ReadConsumes};
 ghost use Rattle.dt_core.specs.Causes.{HasCause, WriteAppends, IsNamed, FailsAsNamed, FailsAsNamedOr};

@@ -8,7 +8,7 @@ use vl_tree::expr::{Binary, Expr, Primary};
 use vl_tree::token::{Key, Literal, Mark, System, Token, TokenKind};
 use vl_tree::tree::{Branch, Port, Stmt};
 
-const KEYS: [(&str, Key); 11] = [
+static KEYS: [(&str, Key); 11] = [
     ("module", Key::Module),
     ("endmodule", Key::Endmodule),
     ("input", Key::Input),
@@ -22,7 +22,7 @@ const KEYS: [(&str, Key); 11] = [
     ("else", Key::Else),
 ];
 
-const MARKS: [(&str, Mark); 13] = [
+static MARKS: [(&str, Mark); 13] = [
     ("(", Mark::OpenParen),
     (")", Mark::CloseParen),
     ("[", Mark::OpenBracket),
@@ -38,16 +38,16 @@ const MARKS: [(&str, Mark); 13] = [
     ("!", Mark::Not),
 ];
 
-const SYSTEMS: [(&str, System); 3] = [
+static SYSTEMS: [(&str, System); 3] = [
     ("$display", System::Display),
     ("$stop", System::Stop),
     ("$finish", System::Other),
 ];
 
-const NUMBERS: [(&str, u32); 4] = [("0", 0), ("1", 1), ("3", 3), ("9", 9)];
+static NUMBERS: [(&str, u32); 4] = [("0", 0), ("1", 1), ("3", 3), ("9", 9)];
 
 fn key_of(word: &str) -> Option<Key> {
-    for (text, key) in KEYS {
+    for (text, key) in KEYS.iter().copied() {
         if word == text {
             return Some(key);
         }
@@ -56,7 +56,7 @@ fn key_of(word: &str) -> Option<Key> {
 }
 
 fn mark_of(word: &str) -> Option<Mark> {
-    for (text, mark) in MARKS {
+    for (text, mark) in MARKS.iter().copied() {
         if word == text {
             return Some(mark);
         }
@@ -65,7 +65,7 @@ fn mark_of(word: &str) -> Option<Mark> {
 }
 
 fn system_of(word: &str) -> Option<System> {
-    for (text, system) in SYSTEMS {
+    for (text, system) in SYSTEMS.iter().copied() {
         if word == text {
             return Some(system);
         }
@@ -74,7 +74,7 @@ fn system_of(word: &str) -> Option<System> {
 }
 
 fn number_of(word: &str) -> Option<Literal> {
-    for (text, value) in NUMBERS {
+    for (text, value) in NUMBERS.iter().copied() {
         if word == text {
             return Some(Literal {
                 width: 32,
@@ -208,96 +208,100 @@ fn reads_the_counter(rt: HostRuntime) -> Result<(), Fail> {
     Ok(())
 }
 
+/// Bodies of a clocked block, and whether they are statements.
+static BODIES: [(&str, bool); 27] = [
+    ("", true),
+    ("r <= a ; r <= 1 ;", true),
+    ("r <= a", false),
+    ("r = a ;", false),
+    ("r <= a + b ;", true),
+    ("r <= a + b + c ;", false),
+    ("r <= a == b ;", true),
+    ("r <= ! a ;", true),
+    ("r <= ! a + b ;", false),
+    ("r <= ( a ) ;", false),
+    (";", false),
+    ("begin end", true),
+    ("begin r <= a ;", false),
+    ("end", false),
+    ("if ( a ) r <= 1 ;", true),
+    (
+        "if ( a ) if ( b ) r <= 1 ; else r <= 0 ; else r <= 3 ;",
+        true,
+    ),
+    ("if a r <= 1 ;", false),
+    ("if ( a ) else r <= 1 ;", false),
+    ("if ( a ) r <= 1 ; else r <= 0 ; else r <= 3 ;", false),
+    ("else r <= 1 ;", false),
+    ("$display ( \"x ) ;", true),
+    ("$display ( \"x , r ) ;", true),
+    ("$display ( r ) ;", false),
+    ("$display ( \"x , 1 ) ;", false),
+    ("$stop ;", true),
+    ("$stop", false),
+    ("$finish ;", false),
+];
+
 #[test]
 fn tells_which_bodies_are_statements(rt: HostRuntime) -> Result<(), Fail> {
     let alloc = rt.alloc();
-    let bodies = [
-        ("", true),
-        ("r <= a ; r <= 1 ;", true),
-        ("r <= a", false),
-        ("r = a ;", false),
-        ("r <= a + b ;", true),
-        ("r <= a + b + c ;", false),
-        ("r <= a == b ;", true),
-        ("r <= ! a ;", true),
-        ("r <= ! a + b ;", false),
-        ("r <= ( a ) ;", false),
-        (";", false),
-        ("begin end", true),
-        ("begin r <= a ;", false),
-        ("end", false),
-        ("if ( a ) r <= 1 ;", true),
-        (
-            "if ( a ) if ( b ) r <= 1 ; else r <= 0 ; else r <= 3 ;",
-            true,
-        ),
-        ("if a r <= 1 ;", false),
-        ("if ( a ) else r <= 1 ;", false),
-        ("if ( a ) r <= 1 ; else r <= 0 ; else r <= 3 ;", false),
-        ("else r <= 1 ;", false),
-        ("$display ( \"x ) ;", true),
-        ("$display ( \"x , r ) ;", true),
-        ("$display ( r ) ;", false),
-        ("$display ( \"x , 1 ) ;", false),
-        ("$stop ;", true),
-        ("$stop", false),
-        ("$finish ;", false),
-    ];
-    for (body, accepted) in bodies {
+    for (body, accepted) in BODIES.iter().copied() {
         let tokens = module_tokens(alloc, body, (0, ""), "")?;
         assert_eq!(rt; is_module(alloc, &tokens)?, accepted, "at {body}");
     }
     Ok(())
 }
 
+/// Texts, and whether they are modules.
+static DESIGNS: [(&str, bool); 12] = [
+    (
+        "module m ( input a ) ; always @ ( posedge a ) begin end endmodule",
+        true,
+    ),
+    (
+        "module m ( input a ) ; always @ ( posedge a ) begin end endmodule endmodule",
+        false,
+    ),
+    (
+        "module m ( input a ) ; always @ ( posedge a ) begin end",
+        false,
+    ),
+    (
+        "module m ( input a ) ; always @ ( a ) begin end endmodule",
+        false,
+    ),
+    (
+        "module m ( input a ) ; always @ ( posedge a ) r <= 1 ; endmodule",
+        false,
+    ),
+    ("module m ( input a ) ; endmodule", false),
+    (
+        "module m ( ) ; always @ ( posedge a ) begin end endmodule",
+        false,
+    ),
+    (
+        "module m ( input a , ) ; always @ ( posedge a ) begin end endmodule",
+        false,
+    ),
+    (
+        "module m ( input a output r ) ; always @ ( posedge a ) begin end endmodule",
+        false,
+    ),
+    (
+        "module m ( input a ) always @ ( posedge a ) begin end endmodule",
+        false,
+    ),
+    (
+        "module ( input a ) ; always @ ( posedge a ) begin end endmodule",
+        false,
+    ),
+    ("", false),
+];
+
 #[test]
 fn tells_which_designs_are_modules(rt: HostRuntime) -> Result<(), Fail> {
     let alloc = rt.alloc();
-    let designs = [
-        (
-            "module m ( input a ) ; always @ ( posedge a ) begin end endmodule",
-            true,
-        ),
-        (
-            "module m ( input a ) ; always @ ( posedge a ) begin end endmodule endmodule",
-            false,
-        ),
-        (
-            "module m ( input a ) ; always @ ( posedge a ) begin end",
-            false,
-        ),
-        (
-            "module m ( input a ) ; always @ ( a ) begin end endmodule",
-            false,
-        ),
-        (
-            "module m ( input a ) ; always @ ( posedge a ) r <= 1 ; endmodule",
-            false,
-        ),
-        ("module m ( input a ) ; endmodule", false),
-        (
-            "module m ( ) ; always @ ( posedge a ) begin end endmodule",
-            false,
-        ),
-        (
-            "module m ( input a , ) ; always @ ( posedge a ) begin end endmodule",
-            false,
-        ),
-        (
-            "module m ( input a output r ) ; always @ ( posedge a ) begin end endmodule",
-            false,
-        ),
-        (
-            "module m ( input a ) always @ ( posedge a ) begin end endmodule",
-            false,
-        ),
-        (
-            "module ( input a ) ; always @ ( posedge a ) begin end endmodule",
-            false,
-        ),
-        ("", false),
-    ];
-    for (design, accepted) in designs {
+    for (design, accepted) in DESIGNS.iter().copied() {
         let mut tokens = Vec::new(alloc);
         push_words(alloc, &mut tokens, design)?;
         assert_eq!(rt; is_module(alloc, &tokens)?, accepted, "at {design}");

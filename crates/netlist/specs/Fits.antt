@@ -2,10 +2,9 @@
 use Rattle.std.specs.Prelude.{◌≡◌, ℕ, zero, suc, ◌+◌, ◌-◌, ◌*◌, ◌^◌, ◌<◌, ◌≤◌, ◌⊎◌, true, max, min, List, length, take, slice_index_or, slice_get, Option, Some, None, IsSomeAnd, is_some, count_by, sum_by}
 use Rattle.std.specs.List.{All}
 use Rattle.std.specs.Option.{ForSome}
-use Rattle.dt_core.specs.declared.limits.TheConstants.{MAX_WIDTH, MAX_SIGNALS, MAX_INPUTS}
+use Rattle.dt_core.specs.declared.limits.TheConstants.{MAX_WIDTH, MAX_SIGNALS, MAX_INPUTS, MAX_INPUT_BITS, MAX_WORDS}
 use Rattle.bit_ops.specs.declared.operator.Binary.{Binary}
 use Rattle.bit_ops.specs.Applied.{unary_width, binary_width, takes_one_width}
-use Rattle.netlist.specs.declared.limits.TheConstants.{MAX_INPUT_BITS, MAX_WORDS}
 use Rattle.netlist.specs.Plain.{PlainMemory, PlainBlock}
 use Rattle.netlist.specs.Design.{Flat}
 use Rattle.netlist.specs.declared.design.Role.{Role}

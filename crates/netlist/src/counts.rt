@@ -5,8 +5,7 @@ ghost use Rattle.std.specs.List.{sum_by};
 ghost use Rattle.netlist.specs.Fits as fits;
 
 use crate::design::{Block, Memory, RegisterPart, Role, Signal};
-use crate::limits::{MAX_INPUT_BITS, MAX_WORDS};
-use dt_core::limits::{MAX_INPUTS, MAX_SIGNALS};
+use dt_core::limits::{MAX_INPUT_BITS, MAX_INPUTS, MAX_SIGNALS, MAX_WORDS};
 
 /// Whether so many things can be numbered.
 pub(crate) fn can_be_numbered(count: usize) -> bool

@@ -14,7 +14,6 @@ mod counts;
 pub mod design;
 pub mod flat;
 pub mod laws;
-pub mod limits;
 mod memories;
 pub mod node;
 mod operations;

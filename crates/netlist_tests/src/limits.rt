@@ -1,11 +1,10 @@
 //! A draft at its limits fits, and one beyond them doesn't.
 
 use crate::draft::{Wrong, draft};
-use dt_core::limits::{MAX_INPUTS, MAX_SIGNALS};
+use dt_core::limits::{MAX_INPUT_BITS, MAX_INPUTS, MAX_SIGNALS, MAX_WORDS};
 use dt_core::text::Text;
 use netlist::design::{Memory, Role, Signal, SignalKind};
 use netlist::flat::FlatDraft;
-use netlist::limits::{MAX_INPUT_BITS, MAX_WORDS};
 use std::alloc::Global;
 use std::test::Fail;
 

@@ -1,4 +1,4 @@
-//! A counter of four bits, made by hand and run: `if (rst) r <= 0; else if (en) r <= r + 1;` and, where `r == 9`, a text and a stop.
+//! A counter of four bits, made by hand and run: `r <= r + 1` where `en`, and, where `r == 9`, a text and a stop.
 
 ghost use Rattle.std.specs.Prelude.{◌≡◌, ◌+◌, ◌-◌, ◌^◌, ◌<◌, length, IfOk};
 ghost use Rattle.flat_ir.specs.FlatRun as run;
@@ -40,38 +40,31 @@ fn when(condition: u32, deed: Deed) -> Action
     Action { condition, deed }
 }
 
-// The inputs are 0 `rst` and 1 `en`, the register is 0 `r`; the signals are 0 `clk`, 1 `rst`, 2 `en` and 3 `r`.
+// Input 0 and signal 0 are `en`, register 0 and signal 1 are `r`.
 fn counter(alloc: Global) -> Result<Flat, Fail>
-    ensures { IfOk result (λ f. (f.inputs ≡ 2) × (length f.signals ≡ 4) × (length f.registers ≡ 1)) }
+    ensures { IfOk result (λ f. (f.inputs ≡ 1) × (length f.signals ≡ 2) × (length f.registers ≡ 1)) }
 {
     let signals = vec![in alloc;
-        signal(alloc, b"clk", SignalKind::Wire, 1, Role::Clock)?,
-        signal(alloc, b"rst", SignalKind::Wire, 1, Role::Input(0))?,
-        signal(alloc, b"en", SignalKind::Wire, 1, Role::Input(1))?,
+        signal(alloc, b"en", SignalKind::Wire, 1, Role::Input(0))?,
         signal(alloc, b"r", SignalKind::Reg, 4, Role::Register(0))?,
     ]?;
     let nodes = vec![in alloc;
         Node::Input(0),
-        Node::Input(1),
         Node::Register(0),
-        Node::Constant(0),
         Node::Constant(1),
-        Node::Sum(2, 4, 4),
-        Node::Not(0),
-        Node::And(6, 1),
+        Node::Sum(1, 2, 4),
         Node::Constant(9),
-        Node::Equal(2, 8),
+        Node::Equal(1, 4),
     ]?;
     let actions = vec![in alloc;
         when(0, Deed::Write(0, 3)),
-        when(7, Deed::Write(0, 5)),
-        when(9, Deed::Say(Text::copied(alloc, b"r hit %0d")?, Some(2))),
-        when(9, Deed::Stop(8)),
+        when(5, Deed::Say(Text::copied(alloc, b"r hit %0d")?, Some(1))),
+        when(5, Deed::Stop(8)),
     ]?;
     let draft = FlatDraft {
         name: Text::copied(alloc, b"counter")?,
         signals,
-        inputs: 2,
+        inputs: 1,
         registers: vec![in alloc; 4u32]?,
         nodes,
         actions,
@@ -110,42 +103,15 @@ fn stops_at_nine<R: Abort, L: Ledger>(rt: &R, alloc: Global, blank: Blank) -> Re
     let mut sim = Sim::start(alloc, &flat, &Order::empty(alloc))?;
     for turn in 0..9 {
         assert_eq!(rt; sim.cycle(), turn);
-        assert!(rt; !cycle(&mut sim, &[0, 1], &mut steps));
+        assert!(rt; !cycle(&mut sim, &[1], &mut steps));
     }
-    sim.settle(&[0, 1], &mut steps);
+    sim.settle(&[1], &mut steps);
     assert!(rt; sim.fires());
     assert_eq!(rt; sim.cycle(), 9);
     let fired = sim.fired(alloc)?;
     assert_eq!(rt; fired.len(), 1);
     assert_eq!(rt; fired[0].line, 8);
     assert_eq!(rt; fired[0].message.bytes(), b"r hit 9\n".as_slice());
-    Ok(())
-}
-
-#[test]
-fn counts_where_enabled(rt: HostRuntime) -> Result<(), Fail> {
-    counts_by_rows::<_, Brand>(&rt, rt.alloc(), Blank::new(1))
-}
-
-fn counts_by_rows<R: Abort, L: Ledger>(rt: &R, alloc: Global, blank: Blank) -> Result<(), Fail>
-    requires name { blank.name ≡ L.name }
-    requires parts { (blank.parts ≡ L.parts) × (0 < blank.parts) }
-{
-    let flat = counter(alloc)?;
-    let mut steps = Steps::<L>::new(blank);
-    let mut sim = Sim::start(alloc, &flat, &Order::empty(alloc))?;
-    let cases = [
-        ([0, 1], 1),
-        ([0, 1], 2),
-        ([0, 0], 2),
-        ([1, 1], 0),
-        ([1, 0], 0),
-        ([0, 1], 1),
-    ];
-    for (row, count) in cases {
-        cycle(&mut sim, &row, &mut steps);
-        assert_eq!(rt; sim.registers(), [count].as_slice());
-    }
     Ok(())
 }
 
@@ -162,30 +128,11 @@ fn goes_on_from_seven<R: Abort, L: Ledger>(rt: &R, alloc: Global, blank: Blank) 
     let mut steps = Steps::<L>::new(blank);
     let seven = FlatState::copied(alloc, &[7])?;
     let mut sim = Sim::at(alloc, &flat, &Order::empty(alloc), &seven, 100)?;
-    cycle(&mut sim, &[0, 1], &mut steps);
+    sim.settle(&[1], &mut steps);
+    assert_eq!(rt; (sim.value(0).width(), sim.value(0).value()), (1, 1));
+    assert_eq!(rt; (sim.value(1).width(), sim.value(1).value()), (4, 7));
+    sim.advance();
     assert_eq!(rt; sim.cycle(), 101);
     assert_eq!(rt; sim.state(alloc)?.registers(), [8].as_slice());
-    Ok(())
-}
-
-#[test]
-fn shows_what_was_settled(rt: HostRuntime) -> Result<(), Fail> {
-    shows_each_signal::<_, Brand>(&rt, rt.alloc(), Blank::new(1))
-}
-
-fn shows_each_signal<R: Abort, L: Ledger>(rt: &R, alloc: Global, blank: Blank) -> Result<(), Fail>
-    requires name { blank.name ≡ L.name }
-    requires parts { (blank.parts ≡ L.parts) × (0 < blank.parts) }
-{
-    let flat = counter(alloc)?;
-    let mut steps = Steps::<L>::new(blank);
-    let five = FlatState::copied(alloc, &[5])?;
-    let mut sim = Sim::at(alloc, &flat, &Order::empty(alloc), &five, 0)?;
-    sim.settle(&[0, 1], &mut steps);
-    for (signal, width, value) in [(0, 1, 0), (1, 1, 0), (2, 1, 1), (3, 4, 5)] {
-        let shown = sim.value(signal);
-        assert_eq!(rt; shown.width(), width);
-        assert_eq!(rt; shown.value(), value);
-    }
     Ok(())
 }

@@ -1,8 +1,7 @@
 -- How a reader goes over words, one after another. `Words` has the grammar of lines, and the laws tie the two.
 -- This project's own.
 use Rattle.std.specs.Prelude.{ℕ, ◌+◌, ◌&&◌, if◌then◌else◌, nat_lt, List, [], ◌∷◌, length, take, drop, bytes_eq, codes, Option, Some, None}
-use Rattle.dt_core.specs.declared.limits.TheConstants.{MAX_FILES}
-use Rattle.talk.specs.declared.options.TheConstants.{MAX_LAG}
+use Rattle.dt_core.specs.declared.limits.TheConstants.{MAX_FILES, MAX_LAG}
 use Rattle.talk.specs.declared.options.Command.{Command}
 use Rattle.talk.specs.declared.options.Command.TheVariants as c
 use Rattle.talk.specs.declared.options.Key.{Key}

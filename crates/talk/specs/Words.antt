@@ -3,8 +3,7 @@
 use Rattle.std.specs.Prelude.{ℕ, ◌*◌, ◌+◌, ◌-◌, ◌==◌, ◌≡◌, ◌≤◌, ◌<◌, Bool, true, false, IsTrue, not, ◌&&◌, ◌||◌, if◌then◌else◌, nat_le, List, [], ◌∷◌, ◌++◌, map, length, take, fold, codes, Option, Some, None}
 use Rattle.std.specs.List.{list_any, list_all}
 use Rattle.std.specs.Char.{is_ascii_digit, is_ascii_alphabetic}
-use Rattle.dt_core.specs.declared.limits.TheConstants.{MAX_FILES, MAX_NAME}
-use Rattle.talk.specs.declared.options.TheConstants.{MAX_LAG, DEFAULT_LAG}
+use Rattle.dt_core.specs.declared.limits.TheConstants.{MAX_FILES, MAX_NAME, MAX_LAG, DEFAULT_LAG}
 use Rattle.talk.specs.declared.options.Command.{Command}
 use Rattle.talk.specs.declared.options.Command.TheVariants as c
 use Rattle.talk.specs.declared.options.Key.{Key}

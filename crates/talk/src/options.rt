@@ -6,13 +6,7 @@ ghost use Rattle.std.specs.Char.{is_ascii_digit};
 ghost use Rattle.talk.specs.Words as spec;
 ghost use Rattle.talk.specs.Reading as reading;
 
-use dt_core::limits::MAX_NAME;
-
-/// The lag where none is set, in cycles.
-pub const DEFAULT_LAG: u32 = 64;
-
-/// The greatest lag, in cycles.
-pub const MAX_LAG: u32 = 16_384;
+use dt_core::limits::{MAX_LAG, MAX_NAME};
 
 /// A command.
 #[derive(Clone, Copy, PartialEq, Eq, Debug, Drop)]

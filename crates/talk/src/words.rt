@@ -8,8 +8,8 @@ ghost use Rattle.talk.specs.Named.{job_seen, number_in};
 ghost use Rattle.talk.specs.Plain.{named};
 
 use crate::job::{Job, Usage};
-use crate::options::{Command, DEFAULT_LAG, Settings, command_of, set};
-use dt_core::limits::MAX_FILES;
+use crate::options::{Command, Settings, command_of, set};
+use dt_core::limits::{DEFAULT_LAG, MAX_FILES};
 
 /// What the words ask for, or the number of the first bad word. It takes no memory.
 pub fn read_words<'a>(words: &'a [&'a str]) -> Result<Job<'a>, Usage>

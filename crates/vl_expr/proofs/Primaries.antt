@@ -250,11 +250,25 @@ module _ (d : ℕ) where
   sinks_here : (a : Placed) (ds es : List ℕ) → d ≡ 201 → ds ≡ d ∷ es → Sinks (a ∷ []) ds
   sinks_here a ds es i h = subst (Sinks (a ∷ [])) (sym h) i
 
+  -- the first token of a primary stands at the primary's depth
+  first_sinks : (x : Placed) (u : Expr) (a : Kind) (p : Place) → IsHead a p u → d ≡ 201 → Sinks (x ∷ []) (expr_depths d u)
+  first_sinks x (number q l) a p h j = j
+  first_sinks x (read n ss) a p h j = j
+  first_sinks x (call n es) a p h j = j
+  first_sinks x (system q f e) a p h j = j
+  first_sinks x (group q e) a p h j = j
+  first_sinks x (concat q es) a p h j = j
+  first_sinks x (repeat q e es) a p h j = j
+  first_sinks x (unary q op e) a p h j = j
+  first_sinks x (chain e ls) a p h j = absurd h
+  first_sinks x (choose cs e) a p h j = absurd h
+
   pub primary_sunk : (a : Kind) (p : Place) (s : Start) (ts rest : List Placed) → ts ≡ at a p ∷ rest → IsStart a s → d ≡ 201
-      → Sunk (below 1) (expr_depths d) (Ends 1) ts (length ts)
+      → Sunk (below 1) (expr_depths d) (Ends 1) (Ends 1) ts (length ts)
   primary_sunk a p s ts rest h i j =
       sunk_here (below 1) (expr_depths d) (Ends 1) (Ends 1) ts (at a p) rest h
       (λ z f. let o = some_start a p s i z in (o.0, o.1, o.2, sinks_here (at a p) (expr_depths d o.0) o.3.0 j o.3.1))
+      (λ u y z c g. first_sinks (at a p) u a p (head_of u a p y z c).0 j)
 
   -- ---- the rules, each from after its first token on
 

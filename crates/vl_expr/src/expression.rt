@@ -14,11 +14,11 @@ ghost use Rattle.vl_expr.specs.Lists as list;
 
 use crate::operators::{Separator, Start, find_operator, find_separator, start_of};
 use crate::parts::{chosen, linked};
+use dt_core::limits::MAX_DEPTH;
 use dt_core::place::Place;
 use dt_core::text::Text;
 use sqlite_items::{Boxed, Items};
 use std::alloc::Global;
-use vl_read::MAX_DEPTH;
 use vl_read::cursor::Cursor;
 use vl_read::fault::Fault;
 use vl_tree::expression::{Choice, Expr, Link, Name, Select, Selected};
@@ -27,10 +27,10 @@ use vl_tree::token::Mark;
 /// An expression, at this depth.
 #[cycle(expression)]
 pub fn read_expr<'a>(alloc: Global, at: Cursor<'a>, depth: u32) -> Result<(Expr, Cursor<'a>), Fault>
-    requires low { depth ≤ 201 }
+    requires low { depth ≤ MAX_DEPTH + 1 }
     ensures reads { Reads view.expr g.expr_at (expr_depths depth) EndsExpr EndsExpr at.entry result }
     ensures shorter { IfOk result (λ x. length x.1 < length at.entry) }
-    ensures shallow { IfOk result (λ x. depth ≤ 200) }
+    ensures shallow { IfOk result (λ x. depth ≤ MAX_DEPTH) }
 {
     let mut choices = Items::new(alloc);
     let mut rest = at;
@@ -65,10 +65,10 @@ fn read_chain<'a>(
 ) -> Result<(Expr, Cursor<'a>), Fault>
     requires some { 1 ≤ limit }
     requires most { limit ≤ 11 }
-    requires low { depth ≤ 201 }
+    requires low { depth ≤ MAX_DEPTH + 1 }
     ensures reads { Reads view.expr (g.below limit) (expr_depths depth) (Ends limit) (Ends limit) at.entry result }
     ensures shorter { IfOk result (λ x. length x.1 < length at.entry) }
-    ensures shallow { IfOk result (λ x. depth ≤ 200) }
+    ensures shallow { IfOk result (λ x. depth ≤ MAX_DEPTH) }
 {
     if limit == 1 {
         return read_primary(alloc, at, depth);
@@ -98,10 +98,10 @@ fn read_chain<'a>(
 // operator with its operand.
 #[cycle(expression)]
 fn read_primary<'a>(alloc: Global, at: Cursor<'a>, depth: u32) -> Result<(Expr, Cursor<'a>), Fault>
-    requires low { depth ≤ 201 }
+    requires low { depth ≤ MAX_DEPTH + 1 }
     ensures reads { Reads view.expr (g.below 1) (expr_depths depth) (Ends 1) (Ends 1) at.entry result }
     ensures shorter { IfOk result (λ x. length x.1 < length at.entry) }
-    ensures shallow { IfOk result (λ x. depth ≤ 200) }
+    ensures shallow { IfOk result (λ x. depth ≤ MAX_DEPTH) }
 {
     let Some((token, place, rest)) = at.next() else {
         return Err(Fault::At(at.left()));
@@ -146,7 +146,7 @@ fn read_named<'a>(
     text: &Text,
     place: Place,
 ) -> Result<(Expr, Cursor<'a>), Fault>
-    requires low { depth ≤ 200 }
+    requires low { depth ≤ MAX_DEPTH }
     ensures reads { ReadsNamed text.now (view.place place) depth at.entry result }
     ensures shorter { IfOk result (λ x. length x.1 ≤ length at.entry) }
 {
@@ -173,7 +173,7 @@ fn read_braces<'a>(
     depth: u32,
     place: Place,
 ) -> Result<(Expr, Cursor<'a>), Fault>
-    requires low { depth ≤ 200 }
+    requires low { depth ≤ MAX_DEPTH }
     ensures reads { Reads view.expr (list.braces_at (view.place place)) (list.braces_depths depth) Any Any at.entry result }
     ensures shorter { IfOk result (λ x. length x.1 < length at.entry) }
 {
@@ -201,10 +201,10 @@ pub fn read_list<'a>(
     at: Cursor<'a>,
     depth: u32,
 ) -> Result<(Items<Expr>, Cursor<'a>), Fault>
-    requires low { depth ≤ 201 }
+    requires low { depth ≤ MAX_DEPTH + 1 }
     ensures reads { Reads list.exprs_of g.exprs_at (exprs_depths depth) EndsList EndsList at.entry result }
     ensures shorter { IfOk result (λ x. length x.1 < length at.entry) }
-    ensures shallow { IfOk result (λ x. depth ≤ 200) }
+    ensures shallow { IfOk result (λ x. depth ≤ MAX_DEPTH) }
 {
     let (first, rest) = read_expr(alloc, at, depth)?;
     read_more(alloc, rest, depth, first)
@@ -218,7 +218,7 @@ pub fn read_more<'a>(
     depth: u32,
     first: Expr,
 ) -> Result<(Items<Expr>, Cursor<'a>), Fault>
-    requires low { depth ≤ 200 }
+    requires low { depth ≤ MAX_DEPTH }
     ensures reads { ReadsMore (view.expr first) depth at.entry result }
     ensures shorter { IfOk result (λ x. length x.1 ≤ length at.entry) }
 {
@@ -244,7 +244,7 @@ pub fn read_selects<'a>(
     at: Cursor<'a>,
     depth: u32,
 ) -> Result<(Items<Selected<Expr>>, Cursor<'a>), Fault>
-    requires low { depth ≤ 200 }
+    requires low { depth ≤ MAX_DEPTH }
     ensures reads { ReadsSelects depth at.entry result }
     ensures shorter { IfOk result (λ x. length x.1 ≤ length at.entry) }
 {
@@ -270,7 +270,7 @@ fn read_select<'a>(
     at: Cursor<'a>,
     depth: u32,
 ) -> Result<(Select<Expr>, Cursor<'a>), Fault>
-    requires low { depth ≤ 201 }
+    requires low { depth ≤ MAX_DEPTH + 1 }
     ensures reads { Reads view.read_select g.select_at (select_depths depth) EndsSelect EndsSelect at.entry result }
     ensures shorter { IfOk result (λ x. length x.1 < length at.entry) }
 {

@@ -80,6 +80,7 @@ fn step(
 fn lex_lines(alloc: Global, bytes: &[u8], lines: &[u32]) -> Result<Vec<Token>, StaticFault>
     requires { length bytes.now ≡ length lines.now }
     ensures tokens { IfOk result (λ v. tokens_of (joined bytes.now lines.now) ≡ Ok (all_coded v.items)) }
+    ensures few { IfOk result (λ v. length v.items ≤ MAX_TOKENS) }
     ensures fault { IfErr result (λ e. HasFault (tokens_of (joined bytes.now lines.now)) (fault_of e)) }
 {
     let mut tokens = Vec::new(alloc);
@@ -93,6 +94,7 @@ fn lex_lines(alloc: Global, bytes: &[u8], lines: &[u32]) -> Result<Vec<Token>, S
 /// The tokens of a clean text, or its first fault.
 pub fn lex(alloc: Global, clean: &Clean) -> Result<Vec<Token>, StaticFault>
     ensures tokens { IfOk result (λ v. tokens_of clean.now ≡ Ok (all_coded v.items)) }
+    ensures few { IfOk result (λ v. length v.items ≤ MAX_TOKENS) }
     ensures fault { IfErr result (λ e. HasFault (tokens_of clean.now) (fault_of e)) }
 {
     lex_lines(alloc, clean.bytes(), clean.lines())

@@ -6,7 +6,8 @@ ghost use Rattle.vl_tree.specs.View as view;
 ghost use Rattle.vl_tree.specs.Grammar.{port_at, module_at};
 ghost use Rattle.vl_module.specs.declared.SynFault.TheVariants as fault;
 ghost use Rattle.vl_module.specs.Reading.{Any, Reads};
-ghost use Rattle.vl_module.specs.Rules.{range_at, output_at, list_at, header_at, clock_at, clocked_at, range_of, output_of, list_of, header_of, clocked_of};
+ghost use Rattle.vl_module.specs.Rules.{range_at, output_at, list_at, header_at, clock_at, clocked_at, range_of, output_of};
+ghost use Rattle.vl_module.specs.Rules.{list_of, header_of, clocked_of};
 
 use crate::SynFault;
 use crate::stmt::{expect_closing, read_block};

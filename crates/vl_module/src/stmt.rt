@@ -6,7 +6,8 @@ ghost use Rattle.vl_tree.specs.View as view;
 ghost use Rattle.vl_tree.specs.Grammar.{stmt_at};
 ghost use Rattle.vl_module.specs.declared.SynFault.TheVariants as fault;
 ghost use Rattle.vl_module.specs.Reading.{Any, Reads, Expects};
-ghost use Rattle.vl_module.specs.Rules.{assign_at, display_at, shown_end, stop_at, block_at, branch_at, conditional_at, closing, IsStart, Begins, branch_of, conditional_of, assign_of};
+ghost use Rattle.vl_module.specs.Rules.{assign_at, display_at, shown_end, stop_at, block_at, branch_at, conditional_at};
+ghost use Rattle.vl_module.specs.Rules.{closing, IsStart, Begins, branch_of, conditional_of, assign_of};
 
 use crate::SynFault;
 use crate::expr::{read_condition, read_expr};

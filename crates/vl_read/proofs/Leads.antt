@@ -1,5 +1,5 @@
 -- How what is answered of a part, where it begins, becomes the answer of the whole rule, where that began.
-use Rattle.std.proofs.Common.{◌≡◌, ◌≤◌, ℕ, List, [], ◌∷◌, ◌++◌, sym, ◌∙◌, ap, subst}
+use Rattle.std.proofs.Common.{◌≡◌, ◌≤◌, ℕ, List, [], ◌∷◌, ◌++◌, length, sym, ◌∙◌, ap, subst, arith}
 use Rattle.std.specs.Prelude.{Result, Ok, Err}
 use Rattle.vl_tree.specs.Derives.{Within, Sinks}
 use Rattle.vl_read.specs.declared.fault.Fault.{Fault}
@@ -84,6 +84,10 @@ module _ {T : Type 0} (P : List T → Type 0) (ts : List T) (none : P [])
   front_more [] a after e y = next a after e y
   front_more (b ∷ bs) a after e y = next b (bs ++ a ∷ after) e (bs ++ a ∷ y)
 
+  front_some : (used rest : List T) → ts ≡ used ++ rest → 1 ≤ length used → (y : List T) → P (used ++ y)
+  front_some [] rest e s y = absurd (omega (arith, s))
+  front_some (b ∷ bs) rest e s y = next b (bs ++ rest) e (bs ++ y)
+
   front_all : (used rest : List T) → ts ≡ used ++ rest → P used
   front_all [] rest e = none
   front_all (b ∷ bs) rest e = next b (bs ++ rest) e bs
@@ -132,9 +136,13 @@ module _ {T : Type 0} (P : List T → Type 0) (ts : List T) (none : P [])
       rest = s.rest;
       whole = s.whole;
       place = s.place;
+      some = s.some;
       viable = λ z may.
           let v = s.viable z may in
           (make v.0, v.1, into v.0 (s.used ++ v.1) z v.2, subst (Sinks s.used) (sym (depths v.0)) v.3);
+      each = λ u y z d g.
+          let o = out u (s.used ++ y) z (front_some s.used s.rest s.whole s.some y) d g in
+          subst (Sinks s.used) (sym (ap L o.2 ∙ depths o.0)) (s.each o.0 y z o.1 g);
     }
 
     -- the same trees by other names, of tokens that begin as these do
@@ -182,9 +190,13 @@ module _ {T N : Type 0} (D : N → List T → List T → Type 0) (M : N → List
     rest = s.rest;
     whole = h ∙ ap (λ x. a ∷ x) s.whole;
     place = s.place;
+    some = omega arith;
     viable = λ z may.
         let v = s.viable z may in
         (v.0, v.1, into v.0 (s.used ++ v.1) z v.2, subst (Sinks (a ∷ s.used)) (sym (depths v.0 (s.used ++ v.1) z v.2)) (sinks_next s.used (M v.0) v.3));
+    each = λ u y z c g.
+        let o = out u (s.used ++ y) z c g in
+        subst (Sinks (a ∷ s.used)) (sym (depths u (s.used ++ y) z o)) (sinks_next s.used (M u) (s.each u y z o g));
   }
 
   pub leads_same : Leads D M F G us E L F G ts (λ x. x)

@@ -1,5 +1,5 @@
 -- How the answers of two readers make the answer of both, one after the other.
-use Rattle.std.proofs.Common.{◌≡◌, ◌≤◌, ℕ, List, [], ◌∷◌, ◌++◌, length, refl, sym, ◌∙◌, ap, subst, append_assoc, append-nil}
+use Rattle.std.proofs.Common.{◌≡◌, ◌≤◌, ℕ, List, [], ◌∷◌, ◌++◌, length, refl, sym, ◌∙◌, ap, subst, append_assoc, append-nil, length-append, arith}
 use Rattle.vl_tree.specs.Derives.{Within, Sinks}
 use Rattle.vl_read.specs.Reading.{Covers, Took, Stuck, Sunk, Any, Both, BothDepths}
 
@@ -70,6 +70,12 @@ module _ {T N : Type 0} (D : N → List T → List T → Type 0) (M : N → List
   any_on t ts m p [] rest z e f = p.any z (f refl)
   any_on t ts m p (b ∷ bs) rest z e f = p.kept b (bs ++ rest) e (bs ++ z)
 
+  -- the same, where the tokens after the place aren't none
+  pub forced_some : (t : N) (ts m : List T) (p : Took D M F G t ts m) (used rest y : List T) → m ≡ used ++ rest → 1 ≤ length used
+      → (t' : N) (z : List T) → D t' (p.used ++ (used ++ y)) z → G z → (t' ≡ t) × (z ≡ used ++ y)
+  forced_some t ts m p [] rest y e s t' z d g = absurd (omega (arith, s))
+  forced_some t ts m p (b ∷ bs) rest y e s t' z d g = p.forced b (bs ++ rest) e t' (bs ++ y) z d g
+
   pub forced_on : (t : N) (ts m : List T) (p : Took D M F G t ts m) (used : List T) (a : T) (after y : List T) → m ≡ used ++ a ∷ after
       → (t' : N) (z : List T) → D t' (p.used ++ (used ++ a ∷ y)) z → G z → (t' ≡ t) × (z ≡ used ++ a ∷ y)
   forced_on t ts m p [] a after y e t' z d g = p.forced a after e t' y z d g
@@ -106,8 +112,16 @@ module _ {T N : Type 0} (D : N → List T → List T → Type 0) (M : N → List
     short = λ u z d g. s.short u z d (g1 z g);
   }
 
-  pub sunk_less : (ts : List T) (left : ℕ) → Sunk D M F ts left → Sunk D M F1 ts left
-  sunk_less ts left s = record { used = s.used; rest = s.rest; whole = s.whole; place = s.place; viable = λ z f. s.viable z (f1 z f) }
+  pub sunk_less : (ts : List T) (left : ℕ) → Sunk D M F G ts left → Sunk D M F1 G1 ts left
+  sunk_less ts left s = record {
+    used = s.used;
+    rest = s.rest;
+    whole = s.whole;
+    place = s.place;
+    some = s.some;
+    viable = λ z f. s.viable z (f1 z f);
+    each = λ t y z d g. s.each t y z d (g1 z g);
+  }
 
 -- ---- the same trees by other names
 
@@ -137,13 +151,15 @@ module _ {T N K : Type 0} (D : N → List T → List T → Type 0) (M : N → Li
     short = λ u z d g. let o = out u s.used z d g in s.short o.0 z o.1 g;
   }
 
-  pub sunk_as : (ts : List T) (left : ℕ) → Sunk D M F ts left → Sunk E L F ts left
+  pub sunk_as : (ts : List T) (left : ℕ) → Sunk D M F G ts left → Sunk E L F G ts left
   sunk_as ts left s = record {
     used = s.used;
     rest = s.rest;
     whole = s.whole;
     place = s.place;
+    some = s.some;
     viable = λ z f. let v = s.viable z f in (make v.0, v.1, into v.0 (s.used ++ v.1) z v.2, subst (Sinks s.used) (sym (depths v.0)) v.3);
+    each = λ u y z d g. let o = out u (s.used ++ y) z d g in subst (Sinks s.used) (sym (ap L o.2 ∙ depths o.0)) (s.each o.0 y z o.1 g);
   }
 
 -- ---- after a token that is known, at this depth
@@ -174,13 +190,17 @@ module _ {T N K : Type 0} (D : N → List T → List T → Type 0) (M : N → Li
     short = λ u z c g. let o = out u s.used z c g in s.short o.0 z o.1 g;
   }
 
-  pub sunk_after : (ts after : List T) → ts ≡ a ∷ after → (left : ℕ) → Sunk D M F after left → Sunk E L F ts left
+  pub sunk_after : (ts after : List T) → ts ≡ a ∷ after → (left : ℕ) → Sunk D M F G after left → Sunk E L F G ts left
   sunk_after ts after h left s = record {
     used = a ∷ s.used;
     rest = s.rest;
     whole = h ∙ ap (λ x. a ∷ x) s.whole;
     place = s.place;
+    some = omega arith;
     viable = λ z f. let v = s.viable z f in (make v.0, v.1, into v.0 (s.used ++ v.1) z v.2, subst (Sinks (a ∷ s.used)) (sym (depths v.0)) (sinks_cons a s.used d (M v.0) low v.3));
+    each = λ u y z c g.
+        let o = out u (s.used ++ y) z c g in
+        subst (Sinks (a ∷ s.used)) (sym (ap L o.2 ∙ depths o.0)) (sinks_cons a s.used d (M o.0) low (s.each o.0 y z o.1 g));
   }
 
 -- ---- two readers in a row
@@ -236,8 +256,16 @@ module _ {T N K : Type 0} (D : N → List T → List T → Type 0) (M : N → Li
     short = λ x z d h. s.short x.0 d.0 d.1 (l.starts x.1 d.0 z d.2 h);
   }
 
-  pub sunk_first : (ts : List T) (left : ℕ) → Sunk D M F1 ts left → Sunk (Both D E) (BothDepths M L) F ts left
-  sunk_first ts left s = record { used = s.used; rest = s.rest; whole = s.whole; place = s.place; viable = viable_first Sinks sinks_front s.used s.viable }
+  pub sunk_first : (ts : List T) (left : ℕ) → Sunk D M F1 G1 ts left → Sunk (Both D E) (BothDepths M L) F G ts left
+  sunk_first ts left s = record {
+    used = s.used;
+    rest = s.rest;
+    whole = s.whole;
+    place = s.place;
+    some = s.some;
+    viable = viable_first Sinks sinks_front s.used s.viable;
+    each = λ x y z d h. sinks_grow s.used (M x.0) (L x.1) (s.each x.0 y d.0 d.1 (l.starts x.1 d.0 z d.2 h));
+  }
 
   pub stuck_second : (t : N) (ts m : List T) (left : ℕ) → Took D M F1 G1 t ts m → Stuck E L F G m left → Stuck (Both D E) (BothDepths M L) F G ts left
   stuck_second t ts m left p s = record {
@@ -263,13 +291,20 @@ module _ {T N K : Type 0} (D : N → List T → List T → Type 0) (M : N → Li
       let o = v z f in
       ((t, o.0), o.1, (b ∷ (bs ++ o.1), rw append_assoc (p.kept b (bs ++ rest) e (bs ++ o.1)), o.2), sinks_after p.used (b ∷ bs) (M t) (L o.0) p.deep o.3)
 
-  pub sunk_second : (t : N) (ts m : List T) (left : ℕ) → Took D M F1 G1 t ts m → Sunk E L F m left → Sunk (Both D E) (BothDepths M L) F ts left
+  pub sunk_second : (t : N) (ts m : List T) (left : ℕ) → Took D M F1 G1 t ts m → Sunk E L F G m left
+      → Sunk (Both D E) (BothDepths M L) F G ts left
   sunk_second t ts m left p s = record {
     used = p.used ++ s.used;
     rest = s.rest;
     whole = p.whole ∙ ap (λ x. p.used ++ x) s.whole ∙ sym (append_assoc p.used s.used s.rest);
     place = s.place;
+    some = omega (arith, s.some, length-append p.used s.used);
     viable = sinks_goes_on t ts m p s.used s.rest s.whole s.viable;
+    each = λ x y z d h.
+        let c : D x.0 (p.used ++ (s.used ++ y)) d.0 = rw append_assoc at d.1 in
+        let g = forced_some D M F1 G1 t ts m p s.used s.rest y s.whole s.some x.0 d.0 c (l.starts x.1 d.0 z d.2 h) in
+        let deep = s.each x.1 y z (subst (λ k. E x.1 k z) g.1 d.2) h in
+        subst (λ w. Sinks (p.used ++ s.used) (M w ++ L x.1)) (sym g.0) (sinks_after p.used s.used (M t) (L x.1) p.deep deep);
   }
 
 -- ---- no token
@@ -338,11 +373,14 @@ module _ {T N : Type 0} (D : N → List T → List T → Type 0) (M : N → List
   }
 
   pub sunk_here : (a : T) (rest : List T) → ts ≡ a ∷ rest
-      → ((z : List T) → F z → (t : N) × (y : List T) × D t (a ∷ y) z × Sinks (a ∷ []) (M t)) → Sunk D M F ts (length ts)
-  sunk_here a rest h some = record {
+      → ((z : List T) → F z → (t : N) × (y : List T) × D t (a ∷ y) z × Sinks (a ∷ []) (M t))
+      → ((t : N) (y z : List T) → D t (a ∷ y) z → G z → Sinks (a ∷ []) (M t)) → Sunk D M F G ts (length ts)
+  sunk_here a rest h some each = record {
     used = a ∷ [];
     rest = rest;
     whole = h;
     place = ap length (sym h);
+    some = omega arith;
     viable = some;
+    each = each;
   }

@@ -83,19 +83,14 @@ module _ {T N : Type 0} (D : N → List T → List T → Type 0) (M : N → List
 
   -- ---- a token that is too deep
 
-  sinks_some : (used : List T) (ds : List ℕ) → Sinks used ds → 1 ≤ length used
-  sinks_some [] ds p = absurd p
-  sinks_some (a ∷ us) ds p = omega arith
-
-  pub sunk_left : (ts : List T) (left : ℕ) → Sunk D M F ts left → left ≤ length ts
+  pub sunk_left : (ts : List T) (left : ℕ) → Sunk D M F G ts left → left ≤ length ts
   sunk_left ts left s =
-      let v = s.viable [] f in
-      omega (arith, ap length s.whole, length-append s.used s.rest, s.place, sinks_some s.used (M v.0) v.3)
+      omega (arith, ap length s.whole, length-append s.used s.rest, s.place, s.some)
 
-  pub sunk_deep : (ts : List T) (left : ℕ) → Sunk D M F ts left → IsTooDeep D M ts (length ts - left)
+  pub sunk_deep : (ts : List T) (left : ℕ) → Sunk D M F G ts left → IsTooDeep D M ts (length ts - left)
   sunk_deep ts left s =
       let v = s.viable [] f in
-      let n : 1 ≤ length s.used = sinks_some s.used (M v.0) v.3 in
+      let n = s.some in
       let l = length_rest ts s.used s.rest s.whole in
       let w = ap length s.whole ∙ length-append s.used s.rest in
       let q : length s.used ≡ (length ts - left) + 1 = omega (arith, l, w, n, s.place) in
@@ -106,6 +101,7 @@ module _ {T N : Type 0} (D : N → List T → List T → Type 0) (M : N → List
         tree = v.0;
         derives = subst (λ x. D v.0 (x ++ v.1) []) (sym h) v.2;
         sinks = subst (λ x. Sinks x (M v.0)) (sym h) v.3;
+        each = λ us t d. subst (λ x. Sinks x (M t)) (sym h) (s.each t us [] (subst (λ x. D t (x ++ us) []) h d) g);
       }
 
   -- ---- a tree that was read

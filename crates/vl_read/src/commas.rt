@@ -1,6 +1,7 @@
 //! Lists with commas, for any rule of the grammar.
 
-ghost use Rattle.std.specs.Prelude.{◌≤◌, ◌<◌, IfOk, length};
+ghost use Rattle.std.specs.Prelude.{◌≤◌, ◌<◌, ◌+◌, IfOk, length};
+ghost use Rattle.dt_core.specs.declared.limits.TheConstants.{MAX_DEPTH};
 ghost use Rattle.vl_read.specs.Commas.{ReadsCommas};
 
 use crate::cursor::Cursor;
@@ -13,7 +14,8 @@ use vl_tree::token::Mark;
 /// it is, `depths` at which depths they stand, and `may` what may follow them; `laws` says that a comma may, and that
 /// there is a tree.
 pub trait Rule {
-    ghost use Rattle.std.specs.Prelude.{ℕ, List, ◌≤◌, ◌<◌, IfOk, length};
+    ghost use Rattle.std.specs.Prelude.{ℕ, List, ◌≤◌, ◌<◌, ◌+◌, IfOk, length};
+    ghost use Rattle.dt_core.specs.declared.limits.TheConstants.{MAX_DEPTH};
     ghost use Rattle.vl_tree.specs.Placed.{Placed};
     ghost use Rattle.vl_read.specs.Reading.{Reads};
     ghost use Rattle.vl_read.specs.Commas.{IsListed};
@@ -38,10 +40,10 @@ pub trait Rule {
         cursor: Cursor<'a>,
         depth: u32,
     ) -> Result<(Self::Tree, Cursor<'a>), Fault>
-        requires low { depth ≤ 201 }
+        requires low { depth ≤ MAX_DEPTH + 1 }
         ensures reads { Reads view at (depths depth) may may cursor.entry result }
         ensures shorter { IfOk result (λ x. length x.1 < length cursor.entry) }
-        ensures shallow { IfOk result (λ x. depth ≤ 200) };
+        ensures shallow { IfOk result (λ x. depth ≤ MAX_DEPTH) };
 }
 
 /// The trees of a rule with commas between them, one at least, at this depth, and the tokens after them.
@@ -50,10 +52,10 @@ pub fn read_commas<'a, R: Rule>(
     cursor: Cursor<'a>,
     depth: u32,
 ) -> Result<(Items<R::Tree>, Cursor<'a>), Fault>
-    requires low { depth ≤ 201 }
+    requires low { depth ≤ MAX_DEPTH + 1 }
     ensures reads { ReadsCommas R.view R.at R.depths R.may depth cursor.entry result }
     ensures shorter { IfOk result (λ x. length x.1 < length cursor.entry) }
-    ensures shallow { IfOk result (λ x. depth ≤ 200) }
+    ensures shallow { IfOk result (λ x. depth ≤ MAX_DEPTH) }
 {
     let mut all = Items::new(alloc);
     let (first, after) = R::read(alloc, cursor, depth)?;

@@ -13,5 +13,4 @@ pub mod commas;
 pub mod cursor;
 pub mod fault;
 
-/// The greatest depth of a token.
-pub const MAX_DEPTH: u32 = 200;
+pub use dt_core::limits::MAX_DEPTH;

@@ -131,14 +131,20 @@ module _ (d : ℕ) where
   sinks_here : (a : Placed) (ds es : List ℕ) → d ≡ 201 → ds ≡ d ∷ es → Sinks (a ∷ []) ds
   sinks_here a ds es i h = subst (Sinks (a ∷ [])) (sym h) i
 
+  -- the first token of a target stands at the target's depth
+  first_sinks : (x : Placed) (u : Target) → d ≡ 201 → Sinks (x ∷ []) (target_depths d u)
+  first_sinks x (name n ss) j = j
+  first_sinks x (targets p us) j = j
+
   pub name_sunk : (t : List ℕ) (p : Place) (ts rest : List Placed) → ts ≡ at (k.name t) p ∷ rest → d ≡ 201
-      → Sunk target_at (target_depths d) EndsTarget ts (length ts)
+      → Sunk target_at (target_depths d) EndsTarget EndsTarget ts (length ts)
   name_sunk t p ts rest h j =
       sunk_here target_at (target_depths d) EndsTarget EndsTarget ts (at (k.name t) p) rest h
       (λ z f. (name (record { text = t; place = p }) no_select, z, (z, refl, refl), sinks_here (at (k.name t) p) (d ∷ []) [] j refl))
+      (λ u y z c g. first_sinks (at (k.name t) p) u j)
 
   pub brace_sunk : (p : Place) (ts rest : List Placed) → ts ≡ at (k.mark m.OpenBrace) p ∷ rest → d ≡ 201
-      → Sunk target_at (target_depths d) EndsTarget ts (length ts)
+      → Sunk target_at (target_depths d) EndsTarget EndsTarget ts (length ts)
   brace_sunk p ts rest h j =
       sunk_here target_at (target_depths d) EndsTarget EndsTarget ts (at (k.mark m.OpenBrace) p) rest h
       (λ z f.
@@ -149,6 +155,7 @@ module _ (d : ℕ) where
         sinks_here (at (k.mark m.OpenBrace) p) (d ∷ (targets_depths (d + 1) (more_target (name (record { text = []; place = somewhere }) no_select) no_target) ++ (d ∷ [])))
             (targets_depths (d + 1) (more_target (name (record { text = []; place = somewhere }) no_select) no_target) ++ (d ∷ [])) j refl,
       ))
+      (λ u y z c g. first_sinks (at (k.mark m.OpenBrace) p) u j)
 
   module _ (low : d ≤ 200) (p : Place) (ts us : List Placed) where
     -- ---- a name with its selects
@@ -227,6 +234,6 @@ module _ (d : ℕ) (a : Kind) (p : Place) (ts us : List Placed) (h : ts ≡ at a
   begins_brace e = h ∙ ap (λ w. at w p ∷ us) (subst (λ w. BeginsTarget a (Some w)) e i)
 
 pub start_sunk : (d : ℕ) (a : Kind) (p : Place) (s : Start) (ts us : List Placed) → ts ≡ at a p ∷ us → BeginsTarget a (Some s) → d ≡ 201
-    → Sunk target_at (target_depths d) EndsTarget ts (length ts)
+    → Sunk target_at (target_depths d) EndsTarget EndsTarget ts (length ts)
 start_sunk d a p (start.Name n) ts us h i j = name_sunk d n.now p ts us (h ∙ ap (λ w. at w p ∷ us) i) j
 start_sunk d a p start.Brace ts us h i j = brace_sunk d p ts us (h ∙ ap (λ w. at w p ∷ us) i) j

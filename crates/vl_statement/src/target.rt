@@ -1,14 +1,14 @@
 //! What an assignment writes.
 
-ghost use Rattle.std.specs.Prelude.{◌≤◌, ◌<◌, IfOk, length};
+ghost use Rattle.std.specs.Prelude.{◌≤◌, ◌<◌, ◌+◌, IfOk, length};
 ghost use Rattle.vl_tree.specs.Token.{coded_kind};
 ghost use Rattle.vl_statement.specs.Targets.{BeginsTarget, ReadsTarget, ReadsTargets};
 
+use dt_core::limits::MAX_DEPTH;
 use dt_core::text::Text;
 use sqlite_items::Items;
 use std::alloc::Global;
 use vl_expr::read_selects;
-use vl_read::MAX_DEPTH;
 use vl_read::cursor::Cursor;
 use vl_read::fault::Fault;
 use vl_tree::expression::Name;
@@ -41,10 +41,10 @@ pub fn read_target<'a>(
     at: Cursor<'a>,
     depth: u32,
 ) -> Result<(Target, Cursor<'a>), Fault>
-    requires low { depth ≤ 201 }
+    requires low { depth ≤ MAX_DEPTH + 1 }
     ensures reads { ReadsTarget depth at.entry result }
     ensures shorter { IfOk result (λ x. length x.1 < length at.entry) }
-    ensures shallow { IfOk result (λ x. depth ≤ 200) }
+    ensures shallow { IfOk result (λ x. depth ≤ MAX_DEPTH) }
 {
     let Some((token, place, rest)) = at.next() else {
         return Err(Fault::At(at.left()));
@@ -76,10 +76,10 @@ fn read_targets<'a>(
     at: Cursor<'a>,
     depth: u32,
 ) -> Result<(Items<Target>, Cursor<'a>), Fault>
-    requires low { depth ≤ 201 }
+    requires low { depth ≤ MAX_DEPTH + 1 }
     ensures reads { ReadsTargets depth at.entry result }
     ensures shorter { IfOk result (λ x. length x.1 < length at.entry) }
-    ensures shallow { IfOk result (λ x. depth ≤ 200) }
+    ensures shallow { IfOk result (λ x. depth ≤ MAX_DEPTH) }
 {
     let mut all = Items::new(alloc);
     let (first, after) = read_target(alloc, at, depth)?;

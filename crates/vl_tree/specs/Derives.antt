@@ -2,6 +2,7 @@
 -- for a tree, from where they begin to those that are left, and `M` at which depths they stand. The words "derives" and
 -- "begins" are those of IEEE 1364-2005, annex A; places and depths are this project's own.
 use Rattle.std.specs.Prelude.{ℕ, ◌≡◌, ◌+◌, ◌≤◌, ◌<◌, List, [], ◌∷◌, ◌++◌, length, take}
+use Rattle.dt_core.specs.declared.limits.TheConstants.{MAX_DEPTH}
 use Rattle.vl_tree.specs.Syntax.{Expr, Source}
 use Rattle.vl_tree.specs.Placed.{Placed}
 use Rattle.vl_tree.specs.Expressions.{expr_at}
@@ -34,20 +35,21 @@ pub record IsBad {T N : Type 0} (D : N → List T → List T → Type 0) (ts : L
 abbrev pub Within : {T : Type 0} → List T → List ℕ → Type 0
 Within [] ds = Unit {0}
 Within (a ∷ us) [] = ⊥
-Within (a ∷ us) (d ∷ ds) = (d ≤ 200) × Within us ds
+Within (a ∷ us) (d ∷ ds) = (d ≤ MAX_DEPTH) × Within us ds
 
 -- the last of these tokens stands at depth 201, and those before it at 200 at most
 abbrev pub Sinks : {T : Type 0} → List T → List ℕ → Type 0
 Sinks [] ds = ⊥
 Sinks (a ∷ us) [] = ⊥
-Sinks (a ∷ []) (d ∷ ds) = d ≡ 201
-Sinks (a ∷ b ∷ us) (d ∷ ds) = (d ≤ 200) × Sinks (b ∷ us) ds
+Sinks (a ∷ []) (d ∷ ds) = d ≡ MAX_DEPTH + 1
+Sinks (a ∷ b ∷ us) (d ∷ ds) = (d ≤ MAX_DEPTH) × Sinks (b ∷ us) ds
 
 -- some list that derives begins with these tokens, and has none of them deeper than 200
 abbrev pub Shallow : {T N : Type 0} → (N → List T → List T → Type 0) → (N → List ℕ) → List T → Type 0
 Shallow {T} {N} D M ts = (more : List T) × (t : N) × D t (ts ++ more) [] × Within ts (M t)
 
--- the first token at depth 201, where some list that derives begins with the tokens up to it
+-- The first token at depth 201: some list that derives begins with the tokens up to it, and in each that does they stand at 200 at
+-- most and it alone at 201.
 pub record IsTooDeep {T N : Type 0} (D : N → List T → List T → Type 0) (M : N
     → List ℕ) (ts : List T) (place : ℕ) : Type 0 where
   pub within : place < length ts
@@ -55,6 +57,7 @@ pub record IsTooDeep {T N : Type 0} (D : N → List T → List T → Type 0) (M 
   pub tree : N
   pub derives : D tree (take (place + 1) ts ++ more) []
   pub sinks : Sinks (take (place + 1) ts) (M tree)
+  pub each : (us : List T) (t : N) → D t (take (place + 1) ts ++ us) [] → Sinks (take (place + 1) ts) (M t)
 
 -- ---- a source
 

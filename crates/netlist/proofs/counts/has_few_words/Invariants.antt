@@ -1,6 +1,6 @@
 use Rattle.std.proofs.Common.{◌≡◌, ◌+◌, take, length}
 use Rattle.std.specs.List.{sum_by}
-use Rattle.netlist.specs.declared.limits.TheConstants.{MAX_WORDS}
+use Rattle.dt_core.specs.declared.limits.TheConstants.{MAX_WORDS}
 use Rattle.netlist.proofs.counts.has_few_words.Given as goal
 
 -- the words so far, and those that are left, are the limit
