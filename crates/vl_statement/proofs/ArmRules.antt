@@ -10,6 +10,7 @@ use Rattle.vl_tree.specs.Placed.{Placed, at}
 use Rattle.vl_tree.specs.Piece.{mark}
 use Rattle.vl_tree.specs.Expressions.{exprs_at}
 use Rattle.vl_tree.specs.Statements.{stmt_at, arms_at, has_arm, case_word, NoElse}
+use Rattle.vl_tree.specs.Derives.{Sinks}
 use Rattle.vl_tree.specs.Depth.{exprs_depths, stmt_depths, arms_depths, one_if}
 use Rattle.vl_read.specs.Reading.{Took, Sunk, Any, Both, BothDepths}
 use Rattle.vl_read.specs.Tokens.{one, one_deep, Not}
@@ -93,12 +94,15 @@ module _ (d : ℕ) where
       (λ x us z c. (us, refl, c)) (default_out p) ts us h
 
   pub default_sunk : (p : Place) (ts us : List Placed) → ts ≡ at (k.key w.Default) p ∷ us → d ≡ 201
-      → Sunk arm_at (arm_depths d) NoElse ts (length ts)
+      → Sunk arm_at (arm_depths d) NoElse Any ts (length ts)
   default_sunk p ts us h j =
       sunk_here arm_at (arm_depths d) NoElse Any ts (at (k.key w.Default) p) us h
       (λ z f.
       let rest : List Placed = at (k.mark m.Semicolon) somewhere ∷ z in
       (default p false (empty somewhere), rest, (rest, refl, (rest, refl, refl)), j))
+      (λ u y z c g.
+      let o = default_out p u y z c g in
+      subst (λ v. Sinks (at (k.key w.Default) p ∷ []) (arm_depths d v)) (sym o.2) j)
 
   pub some_arm : Productive arm_at NoElse
   some_arm z f =

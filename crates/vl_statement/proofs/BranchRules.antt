@@ -15,11 +15,11 @@ use Rattle.vl_read.specs.declared.fault.Fault.TheVariants as f
 use Rattle.vl_read.specs.Reading.{Took, Refuses, Any, Both, BothDepths}
 use Rattle.vl_read.specs.Tokens.{Not}
 use Rattle.vl_read.proofs.Pieces.{link_any}
-use Rattle.vl_read.proofs.Leads.{Leads, leads_as, leads_after, leads_same}
+use Rattle.vl_read.proofs.Leads.{Leads, leads_as, leads_after, leads_same, front_more, front_some, front_all}
 use Rattle.vl_read.proofs.TokenRules.{somewhere}
 use Rattle.vl_statement.specs.Readers.{grouped_at, grouped_depths}
 use Rattle.vl_statement.specs.Parts.{after, after_depths, rest_of, branch_at, branch_depths, others_at, others_depths}
-use Rattle.vl_statement.proofs.Steps.{Joint, front_more, front_all}
+use Rattle.vl_statement.proofs.Steps.{Joint}
 use Rattle.vl_statement.proofs.Heads.{IsHead, tail_at, head_of, some_stmt, if_conditional, not_if}
 
 abbrev pub Plain : Type 0
@@ -268,7 +268,11 @@ module _ (d : ℕ) where
       rest = s.rest;
       whole = s.whole;
       place = s.place;
+      some = s.some;
       viable = last_sunk s.used s.rest s.whole s.viable;
+      each = λ u y z c g.
+          let v = last_out u (s.used ++ y) z (front_some (Not (k.key w.If)) ts tt no_if s.used s.rest s.whole s.some y) c in
+          subst (λ w. Sinks s.used (else_depths w)) (sym v.2) (s.each v.0 y z v.1 g);
     }
 
     pub last_part : Leads stmt_at (stmt_depths (d + 1)) NoElse Any ts (else_at o) else_depths NoElse Any ts last

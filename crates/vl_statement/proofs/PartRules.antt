@@ -35,9 +35,9 @@ some_names z f = (some_name, at (k.name []) somewhere ∷ z, refl)
 
 module _ (d : ℕ) where
   pub name_sunk : (n : Name) (ts rest : List Placed) → ts ≡ at (k.name n.text) n.place ∷ rest → d ≡ 201
-      → Sunk name_at (name_depth d) Any ts (length ts)
+      → Sunk name_at (name_depth d) Any Any ts (length ts)
   name_sunk n ts rest h j =
-      sunk_here name_at (name_depth d) Any Any ts (at (k.name n.text) n.place) rest h (λ z f. (n, z, refl, j))
+      sunk_here name_at (name_depth d) Any Any ts (at (k.name n.text) n.place) rest h (λ z f. (n, z, refl, j)) (λ u y z c g. j)
 
   -- ---- a name and its value
 

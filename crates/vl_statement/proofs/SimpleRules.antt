@@ -146,9 +146,9 @@ module _ (d : ℕ) where
       (λ u z c g. absurd cc)
 
   pub format_sunk : (t : List ℕ) (p : Place) (ts rest : List Placed) → ts ≡ at (k.str t) p ∷ rest → d ≡ 201
-      → Sunk format_at (format_depths d) EndsList ts (length ts)
+      → Sunk format_at (format_depths d) EndsList EndsList ts (length ts)
   format_sunk t p ts rest h j =
-      sunk_here format_at (format_depths d) EndsList EndsList ts (at (k.str t) p) rest h (λ z f. ((p, t, no_expr), z, (z, refl, refl), j))
+      sunk_here format_at (format_depths d) EndsList EndsList ts (at (k.str t) p) rest h (λ z f. ((p, t, no_expr), z, (z, refl, refl), j)) (λ u y z c g. j)
 
   module _ (low : d ≤ 200) (t : List ℕ) (p : Place) (ts us : List Placed) (h : ts ≡ at (k.str t) p ∷ us) where
     format_out : (u : Place × List ℕ × Exprs) (us z : List Placed) → format_at u (at (k.str t) p ∷ us) z → EndsList z

@@ -123,12 +123,13 @@ module _ (d : ℕ) where
   sinks_here a ds es i h = subst (Sinks (a ∷ [])) (sym h) i
 
   pub start_sunk : (a : Kind) (p : Place) (x : Start) (ts us : List Placed) → ts ≡ at a p ∷ us → IsStart a x → d ≡ 201
-      → Sunk stmt_at (stmt_depths d) NoElse ts (length ts)
+      → Sunk stmt_at (stmt_depths d) NoElse Any ts (length ts)
   start_sunk a p x ts us h i j =
       sunk_here stmt_at (stmt_depths d) NoElse Any ts (at a p) us h
       (λ z g.
       let o = some_start a p x i z g in
       (o.0, o.1, o.2, sinks_here (at a p) (stmt_depths d o.0) (rest_of (stmt_depths d o.0)) j (first_depth d o.0 (at a p ∷ o.1) z o.2)))
+      (λ u y z c g. sinks_here (at a p) (stmt_depths d u) (rest_of (stmt_depths d u)) j (first_depth d u (at a p ∷ y) z c))
 
   -- ---- after the first token
 

@@ -1,5 +1,5 @@
 -- Steps through a rule of several parts: from what leads to all of them to what leads to those after the first.
-use Rattle.std.proofs.Common.{◌≡◌, ℕ, List, [], ◌∷◌, ◌++◌}
+use Rattle.std.proofs.Common.{ℕ, List}
 use Rattle.vl_read.specs.declared.fault.Fault.{Fault}
 use Rattle.vl_read.specs.Reading.{Took, Refuses, Any, Both, BothDepths}
 use Rattle.vl_read.proofs.Pieces.{Links, Productive}
@@ -28,15 +28,3 @@ module _ {T N K H : Type 0} {D : N → List T → List T → Type 0} {M : N → 
 pub both_some : {T N K : Type 0} {D : N → List T → List T → Type 0} {E : K → List T → List T → Type 0} {F : List T → Type 0}
     → Productive D Any → Productive E F → Productive (Both D E) F
 both_some p q z f = let o = q z f in let w = p o.1 tt in ((w.0, o.0), w.1, (o.1, w.2, o.2))
-
--- ---- where it is known what comes next
-
-module _ {T : Type 0} (P : List T → Type 0) (ts : List T) (none : P [])
-    (next : (a : T) (more : List T) → ts ≡ a ∷ more → (y : List T) → P (a ∷ y)) where
-  pub front_more : (used : List T) (a : T) (more : List T) → ts ≡ used ++ a ∷ more → (y : List T) → P (used ++ a ∷ y)
-  front_more [] a more e y = next a more e y
-  front_more (b ∷ bs) a more e y = next b (bs ++ a ∷ more) e (bs ++ a ∷ y)
-
-  pub front_all : (used rest : List T) → ts ≡ used ++ rest → P used
-  front_all [] rest e = none
-  front_all (b ∷ bs) rest e = next b (bs ++ rest) e bs

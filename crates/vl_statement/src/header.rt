@@ -1,6 +1,7 @@
 //! The header of a loop.
 
 ghost use Rattle.std.specs.Prelude.{◌≤◌, ◌<◌, IfOk, length};
+ghost use Rattle.dt_core.specs.declared.limits.TheConstants.{MAX_DEPTH};
 ghost use Rattle.vl_statement.specs.Readers.{ReadsLoop};
 
 use crate::parts::read_valued;
@@ -14,7 +15,7 @@ use vl_tree::token::Mark;
 /// `(variable = first; condition; stepped = step)` (IEEE 1364-2005, A.6.8), from after `for` on: the parentheses stand
 /// at this depth.
 pub fn read_loop<'a>(alloc: Global, at: Cursor<'a>, depth: u32) -> Result<(Loop, Cursor<'a>), Fault>
-    requires low { depth ≤ 200 }
+    requires low { depth ≤ MAX_DEPTH }
     ensures reads { ReadsLoop depth at.entry result }
     ensures shorter { IfOk result (λ x. length x.1 < length at.entry) }
 {

@@ -1,13 +1,13 @@
 //! Parts that several rules have.
 
-ghost use Rattle.std.specs.Prelude.{◌≤◌, ◌<◌, IfOk, length};
+ghost use Rattle.std.specs.Prelude.{◌+◌, ◌≤◌, ◌<◌, IfOk, length};
 ghost use Rattle.vl_tree.specs.Token as k;
 ghost use Rattle.vl_tree.specs.declared.token.Mark.TheVariants as m;
 ghost use Rattle.vl_statement.specs.Readers.{ReadsName, ReadsValued, ReadsGrouped, ReadsLabel, FindsOptional};
 
+use dt_core::limits::MAX_DEPTH;
 use std::alloc::Global;
 use vl_expr::read_expr;
-use vl_read::MAX_DEPTH;
 use vl_read::cursor::Cursor;
 use vl_read::fault::Fault;
 use vl_tree::expression::{Expr, Name};
@@ -16,10 +16,10 @@ use vl_tree::token::Mark;
 
 /// A name, at this depth.
 pub fn read_name<'a>(alloc: Global, at: Cursor<'a>, depth: u32) -> Result<(Name, Cursor<'a>), Fault>
-    requires low { depth ≤ 201 }
+    requires low { depth ≤ MAX_DEPTH + 1 }
     ensures reads { ReadsName depth at.entry result }
     ensures shorter { IfOk result (λ x. length x.1 < length at.entry) }
-    ensures shallow { IfOk result (λ x. depth ≤ 200) }
+    ensures shallow { IfOk result (λ x. depth ≤ MAX_DEPTH) }
 {
     let (name, rest) = at.expect_name(alloc)?;
     if depth > MAX_DEPTH {
@@ -34,10 +34,10 @@ pub fn read_valued<'a>(
     at: Cursor<'a>,
     depth: u32,
 ) -> Result<(Valued, Cursor<'a>), Fault>
-    requires low { depth ≤ 201 }
+    requires low { depth ≤ MAX_DEPTH + 1 }
     ensures reads { ReadsValued depth at.entry result }
     ensures shorter { IfOk result (λ x. length x.1 < length at.entry) }
-    ensures shallow { IfOk result (λ x. depth ≤ 200) }
+    ensures shallow { IfOk result (λ x. depth ≤ MAX_DEPTH) }
 {
     let (name, rest) = read_name(alloc, at, depth)?;
     let rest = rest.pass_mark(Mark::Equals)?;
@@ -51,7 +51,7 @@ pub fn read_grouped<'a>(
     at: Cursor<'a>,
     depth: u32,
 ) -> Result<(Expr, Cursor<'a>), Fault>
-    requires low { depth ≤ 200 }
+    requires low { depth ≤ MAX_DEPTH }
     ensures reads { ReadsGrouped depth at.entry result }
     ensures shorter { IfOk result (λ x. length x.1 < length at.entry) }
 {
@@ -67,7 +67,7 @@ pub fn read_label<'a>(
     at: Cursor<'a>,
     depth: u32,
 ) -> Result<(Option<Name>, Cursor<'a>), Fault>
-    requires low { depth ≤ 200 }
+    requires low { depth ≤ MAX_DEPTH }
     ensures reads { ReadsLabel depth at.entry result }
     ensures shorter { IfOk result (λ x. length x.1 ≤ length at.entry) }
 {

@@ -1,6 +1,6 @@
 //! Statements that hold no other: assignments and system tasks.
 
-ghost use Rattle.std.specs.Prelude.{◌≤◌, ◌<◌, IfOk, IfSome, length};
+ghost use Rattle.std.specs.Prelude.{◌+◌, ◌≤◌, ◌<◌, IfOk, IfSome, length};
 ghost use Rattle.vl_tree.specs.Token as k;
 ghost use Rattle.vl_tree.specs.declared.token.Mark.TheVariants as m;
 ghost use Rattle.vl_tree.specs.declared.token.System.TheVariants as s;
@@ -10,12 +10,12 @@ ghost use Rattle.vl_statement.specs.Parts.{ReadsAssign, ReadsAfter, ReadsValues,
 ghost use Rattle.vl_statement.specs.Parts.{FindsAssignment, ReadsEmptyList};
 
 use crate::target::read_target;
+use dt_core::limits::MAX_DEPTH;
 use dt_core::place::Place;
 use dt_core::text::Text;
 use sqlite_items::Items;
 use std::alloc::Global;
 use vl_expr::read_expr;
-use vl_read::MAX_DEPTH;
 use vl_read::cursor::Cursor;
 use vl_read::fault::Fault;
 use vl_tree::expression::Expr;
@@ -49,7 +49,7 @@ pub fn read_assign<'a>(
     at: Cursor<'a>,
     depth: u32,
 ) -> Result<(Stmt, Cursor<'a>), Fault>
-    requires low { depth ≤ 200 }
+    requires low { depth ≤ MAX_DEPTH }
     ensures reads { ReadsAssign depth at.entry result }
     ensures shorter { IfOk result (λ x. length x.1 < length at.entry) }
 {
@@ -68,7 +68,7 @@ fn read_values<'a>(
     at: Cursor<'a>,
     depth: u32,
 ) -> Result<(Items<Expr>, Cursor<'a>), Fault>
-    requires low { depth ≤ 200 }
+    requires low { depth ≤ MAX_DEPTH }
     ensures reads { ReadsValues depth at.entry result }
     ensures shorter { IfOk result (λ x. length x.1 ≤ length at.entry) }
 {
@@ -88,7 +88,7 @@ fn read_values<'a>(
 
 // A format and its values.
 fn read_format<'a>(alloc: Global, at: Cursor<'a>, depth: u32) -> Result<(Format, Cursor<'a>), Fault>
-    requires low { depth ≤ 201 }
+    requires low { depth ≤ MAX_DEPTH + 1 }
     ensures reads { ReadsFormat depth at.entry result }
     ensures shorter { IfOk result (λ x. length x.1 < length at.entry) }
 {
@@ -121,7 +121,7 @@ fn read_printed<'a>(
     at: Cursor<'a>,
     depth: u32,
 ) -> Result<(Printed, Cursor<'a>), Fault>
-    requires low { depth ≤ 200 }
+    requires low { depth ≤ MAX_DEPTH }
     ensures reads { ReadsPrinted depth at.entry result }
     ensures shorter { IfOk result (λ x. length x.1 ≤ length at.entry) }
 {
@@ -145,7 +145,7 @@ fn read_stopped<'a>(
     at: Cursor<'a>,
     depth: u32,
 ) -> Result<(Stopped, Cursor<'a>), Fault>
-    requires low { depth ≤ 200 }
+    requires low { depth ≤ MAX_DEPTH }
     ensures reads { ReadsStopped depth at.entry result }
     ensures shorter { IfOk result (λ x. length x.1 ≤ length at.entry) }
 {
@@ -184,7 +184,7 @@ pub fn read_print<'a>(
     place: Place,
     print: Print,
 ) -> Result<(Stmt, Cursor<'a>), Fault>
-    requires low { depth ≤ 200 }
+    requires low { depth ≤ MAX_DEPTH }
     ensures reads { ReadsAfter (k.system (print_name (view.print print))) (view.place place) depth at.entry result }
     ensures shorter { IfOk result (λ x. length x.1 < length at.entry) }
 {
@@ -200,7 +200,7 @@ pub fn read_file_print<'a>(
     depth: u32,
     place: Place,
 ) -> Result<(Stmt, Cursor<'a>), Fault>
-    requires low { depth ≤ 200 }
+    requires low { depth ≤ MAX_DEPTH }
     ensures reads { ReadsAfter (k.system s.Fwrite) (view.place place) depth at.entry result }
     ensures shorter { IfOk result (λ x. length x.1 < length at.entry) }
 {
@@ -221,7 +221,7 @@ pub fn read_stop<'a>(
     depth: u32,
     place: Place,
 ) -> Result<(Stmt, Cursor<'a>), Fault>
-    requires low { depth ≤ 200 }
+    requires low { depth ≤ MAX_DEPTH }
     ensures reads { ReadsAfter (k.system s.Stop) (view.place place) depth at.entry result }
     ensures shorter { IfOk result (λ x. length x.1 < length at.entry) }
 {
@@ -232,7 +232,7 @@ pub fn read_stop<'a>(
 
 /// `$fatal`, from after it on.
 pub fn read_fatal<'a>(at: Cursor<'a>, depth: u32, place: Place) -> Result<(Stmt, Cursor<'a>), Fault>
-    requires low { depth ≤ 200 }
+    requires low { depth ≤ MAX_DEPTH }
     ensures reads { ReadsAfter (k.system s.Fatal) (view.place place) depth at.entry result }
     ensures shorter { IfOk result (λ x. length x.1 < length at.entry) }
 {

@@ -1,6 +1,6 @@
 //! Readers of statements, one for each rule that holds statements.
 
-ghost use Rattle.std.specs.Prelude.{◌≡◌, ◌≤◌, ◌<◌, IfOk, length};
+ghost use Rattle.std.specs.Prelude.{◌+◌, ◌≡◌, ◌≤◌, ◌<◌, IfOk, length};
 ghost use Rattle.vl_tree.specs.Token as k;
 ghost use Rattle.vl_tree.specs.declared.token.Key.TheVariants as w;
 ghost use Rattle.vl_tree.specs.SyntaxView as view;
@@ -12,11 +12,11 @@ use crate::header::read_loop;
 use crate::parts::{pass_colon, read_grouped, read_label};
 use crate::simple::{read_assign, read_fatal, read_file_print, read_print, read_stop};
 use crate::start::{Start, start_of};
+use dt_core::limits::MAX_DEPTH;
 use dt_core::place::Place;
 use sqlite_items::{Boxed, Items};
 use std::alloc::Global;
 use vl_expr::read_list;
-use vl_read::MAX_DEPTH;
 use vl_read::cursor::Cursor;
 use vl_read::fault::Fault;
 use vl_tree::statement::{Arm, Branch, Stmt};
@@ -29,10 +29,10 @@ pub fn read_statement<'a>(
     at: Cursor<'a>,
     depth: u32,
 ) -> Result<(Stmt, Cursor<'a>), Fault>
-    requires low { depth ≤ 201 }
+    requires low { depth ≤ MAX_DEPTH + 1 }
     ensures reads { ReadsStatement depth at.entry result }
     ensures shorter { IfOk result (λ x. length x.1 < length at.entry) }
-    ensures shallow { IfOk result (λ x. depth ≤ 200) }
+    ensures shallow { IfOk result (λ x. depth ≤ MAX_DEPTH) }
 {
     let Some((token, place, rest)) = at.next() else {
         return Err(Fault::At(at.left()));
@@ -65,7 +65,7 @@ fn read_block<'a>(
     depth: u32,
     place: Place,
 ) -> Result<(Stmt, Cursor<'a>), Fault>
-    requires low { depth ≤ 200 }
+    requires low { depth ≤ MAX_DEPTH }
     ensures reads { ReadsAfter (k.key w.Begin) (view.place place) depth at.entry result }
     ensures shorter { IfOk result (λ x. length x.1 < length at.entry) }
 {
@@ -92,7 +92,7 @@ fn read_conditional<'a>(
     depth: u32,
     place: Place,
 ) -> Result<(Stmt, Cursor<'a>), Fault>
-    requires low { depth ≤ 200 }
+    requires low { depth ≤ MAX_DEPTH }
     ensures reads { ReadsAfter (k.key w.If) (view.place place) depth at.entry result }
     ensures shorter { IfOk result (λ x. length x.1 < length at.entry) }
 {
@@ -127,7 +127,7 @@ fn read_branch<'a>(
     depth: u32,
     place: Place,
 ) -> Result<(Branch<Stmt>, Cursor<'a>), Fault>
-    requires low { depth ≤ 200 }
+    requires low { depth ≤ MAX_DEPTH }
     ensures reads { ReadsBranch (view.place place) depth at.entry result }
     ensures shorter { IfOk result (λ x. length x.1 < length at.entry) }
 {
@@ -150,7 +150,7 @@ fn read_select<'a>(
     place: Place,
     wild: bool,
 ) -> Result<(Stmt, Cursor<'a>), Fault>
-    requires low { depth ≤ 200 }
+    requires low { depth ≤ MAX_DEPTH }
     ensures reads { ReadsAfter (k.key (case_word wild)) (view.place place) depth at.entry result }
     ensures shorter { IfOk result (λ x. length x.1 < length at.entry) }
 {
@@ -174,7 +174,7 @@ fn read_select<'a>(
 // An arm: labels or `default`, and its statement, which is deeper by one.
 #[cycle(statement)]
 fn read_arm<'a>(alloc: Global, at: Cursor<'a>, depth: u32) -> Result<(Arm<Stmt>, Cursor<'a>), Fault>
-    requires low { depth ≤ 201 }
+    requires low { depth ≤ MAX_DEPTH + 1 }
     ensures reads { ReadsArm depth at.entry result }
     ensures shorter { IfOk result (λ x. length x.1 < length at.entry) }
 {
@@ -204,7 +204,7 @@ fn read_for<'a>(
     depth: u32,
     place: Place,
 ) -> Result<(Stmt, Cursor<'a>), Fault>
-    requires low { depth ≤ 200 }
+    requires low { depth ≤ MAX_DEPTH }
     ensures reads { ReadsAfter (k.key w.For) (view.place place) depth at.entry result }
     ensures shorter { IfOk result (λ x. length x.1 < length at.entry) }
 {
