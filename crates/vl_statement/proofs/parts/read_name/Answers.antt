@@ -17,4 +17,5 @@ returns-then-depth-gt-MAX_DEPTH-clause-reads c =
 
 pub returns-clause-reads : goal.returns-clause-reads
 returns-clause-reads c =
-    took_name c.args.depth (omega (arith, c.requires.low, c.if-depth-gt-MAX_DEPTH.false)) (plain.name c.in_ok-name.name) c.args.at _ c.in_ok-name.ensures.reads
+    took_name c.args.depth (omega (arith, c.requires.low, c.if-depth-gt-MAX_DEPTH.false)) (plain.name c.in_ok-name.name) c.args.at _
+    c.in_ok-name.ensures.reads

@@ -8,19 +8,28 @@ use Rattle.vl_statement.proofs.parts.read_valued.Goals as goal
 
 pub returns-in_err-name-clause-reads : goal.returns-in_err-name-clause-reads
 returns-in_err-name-clause-reads c =
+    let l0 = rule.valued_parts c.args.depth c.args.at in
     let p = err_from_is_err_and c.from_residual.result c.from_residual.ensures.1 in
-    rw (p.1, p.2) (fails_at (rule.name_first c.args.depth) (rule.valued_parts c.args.depth c.args.at) c.in_err-name.field-0.0 c.in_err-name.ensures.reads)
+    rw (p.1, p.2) (fails_at (rule.name_first c.args.depth) l0 c.in_err-name.field-0.0 c.in_err-name.ensures.reads)
 
 pub returns-in_err-rest-clause-reads : goal.returns-in_err-rest-clause-reads
 returns-in_err-rest-clause-reads c =
+    let l0 = rule.valued_parts c.args.depth c.args.at in
+    let l1 = after_part (rule.name_first c.args.depth) l0 _ _ c.in_ok-name.ensures.reads in
     let p = err_from_is_err_and c.from_residual-in_err-rest.result c.from_residual-in_err-rest.ensures.1 in
-    rw (p.1, p.2) (fails_at (rule.equals_next c.args.depth) (after_part (rule.name_first c.args.depth) (rule.valued_parts c.args.depth c.args.at) _ _ c.in_ok-name.ensures.reads) c.in_err-rest.field-0.0 (c.in_err-rest.ensures.reads c.args.depth))
+    rw (p.1, p.2) (fails_at (rule.equals_next c.args.depth) l1 c.in_err-rest.field-0.0 (c.in_err-rest.ensures.reads c.args.depth))
 
 pub returns-in_err-value-clause-reads : goal.returns-in_err-value-clause-reads
 returns-in_err-value-clause-reads c =
+    let l0 = rule.valued_parts c.args.depth c.args.at in
+    let l1 = after_part (rule.name_first c.args.depth) l0 _ _ c.in_ok-name.ensures.reads in
+    let l2 = after_part (rule.equals_next c.args.depth) l1 _ _ (took_kind (k.mark m.Equals) c.args.depth c.in_ok-name.ensures.shallow _ _ _ c.in_ok-rest.ensures.reads.1) in
     let p = err_from_is_err_and c.from_residual-in_err-value.result c.from_residual-in_err-value.ensures.1 in
-    rw (p.1, p.2) ((after_part (rule.equals_next c.args.depth) (after_part (rule.name_first c.args.depth) (rule.valued_parts c.args.depth c.args.at) _ _ c.in_ok-name.ensures.reads) _ _ (took_kind (k.mark m.Equals) c.args.depth c.in_ok-name.ensures.shallow _ _ _ c.in_ok-rest.ensures.reads.1)).fails c.in_err-value.field-0.0 c.in_err-value.ensures.reads)
+    rw (p.1, p.2) (l2.fails c.in_err-value.field-0.0 c.in_err-value.ensures.reads)
 
 pub returns-clause-reads : goal.returns-clause-reads
 returns-clause-reads c =
-    (after_part (rule.equals_next c.args.depth) (after_part (rule.name_first c.args.depth) (rule.valued_parts c.args.depth c.args.at) _ _ c.in_ok-name.ensures.reads) _ _ (took_kind (k.mark m.Equals) c.args.depth c.in_ok-name.ensures.shallow _ _ _ c.in_ok-rest.ensures.reads.1)).took _ _ c.in_ok-value.ensures.reads
+    let l0 = rule.valued_parts c.args.depth c.args.at in
+    let l1 = after_part (rule.name_first c.args.depth) l0 _ _ c.in_ok-name.ensures.reads in
+    let l2 = after_part (rule.equals_next c.args.depth) l1 _ _ (took_kind (k.mark m.Equals) c.args.depth c.in_ok-name.ensures.shallow _ _ _ c.in_ok-rest.ensures.reads.1) in
+    l2.took _ _ c.in_ok-value.ensures.reads

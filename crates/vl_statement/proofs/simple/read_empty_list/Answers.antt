@@ -12,9 +12,12 @@ returns-in-None-clause-reads c =
 pub returns-in_err-rest-in-Some-clause-reads : goal.returns-in_err-rest-in-Some-clause-reads
 returns-in_err-rest-in-Some-clause-reads c =
     λ d low.
+    let l = rule.empty_list_part d low _ c.args.at _ c.in-Some.ensures.reads in
     let p = err_from_is_err_and c.from_residual.result c.from_residual.ensures.1 in
-    rw (p.1, p.2) ((rule.empty_list_part d low _ c.args.at _ c.in-Some.ensures.reads).fails c.in_err-rest-in-Some.field-0.0 (c.in_err-rest-in-Some.ensures.reads d))
+    rw (p.1, p.2) (l.fails c.in_err-rest-in-Some.field-0.0 (c.in_err-rest-in-Some.ensures.reads d))
 
 pub returns-in_ok-rest-in-Some-clause-reads : goal.returns-in_ok-rest-in-Some-clause-reads
 returns-in_ok-rest-in-Some-clause-reads c =
-    λ d low. (rule.empty_list_part d low _ c.args.at _ c.in-Some.ensures.reads).took _ _ (took_kind (k.mark m.CloseParen) d low _ _ _ c.in_ok-rest-in-Some.ensures.reads.1)
+    λ d low.
+    let l = rule.empty_list_part d low _ c.args.at _ c.in-Some.ensures.reads in
+    l.took _ _ (took_kind (k.mark m.CloseParen) d low _ _ _ c.in_ok-rest-in-Some.ensures.reads.1)

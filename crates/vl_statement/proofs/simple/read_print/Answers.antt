@@ -10,15 +10,20 @@ use Rattle.vl_statement.proofs.simple.read_print.Goals as goal
 
 pub returns-in_err-printed-clause-reads : goal.returns-in_err-printed-clause-reads
 returns-in_err-printed-clause-reads c =
+    let l0 = rule.print_parts c.args.depth (plain.place c.args.place) (plain.print c.args.print) c.args.at in
     let p = err_from_is_err_and c.from_residual.result c.from_residual.ensures.1 in
-    rw (p.1, p.2) (fails_at (rule.printed_next c.args.depth (plain.place c.args.place)) (rule.print_parts c.args.depth (plain.place c.args.place) (plain.print c.args.print) c.args.at) c.in_err-printed.field-0.0 c.in_err-printed.ensures.reads)
+    rw (p.1, p.2) (fails_at (rule.printed_next c.args.depth (plain.place c.args.place)) l0 c.in_err-printed.field-0.0 c.in_err-printed.ensures.reads)
 
 pub returns-in_err-rest-clause-reads : goal.returns-in_err-rest-clause-reads
 returns-in_err-rest-clause-reads c =
+    let l0 = rule.print_parts c.args.depth (plain.place c.args.place) (plain.print c.args.print) c.args.at in
+    let l1 = after_part (rule.printed_next c.args.depth (plain.place c.args.place)) l0 _ _ c.in_ok-printed.ensures.reads in
     let p = err_from_is_err_and c.from_residual-in_err-rest.result c.from_residual-in_err-rest.ensures.1 in
-    rw (p.1, p.2) ((after_part (rule.printed_next c.args.depth (plain.place c.args.place)) (rule.print_parts c.args.depth (plain.place c.args.place) (plain.print c.args.print) c.args.at) _ _ c.in_ok-printed.ensures.reads).fails c.in_err-rest.field-0.0 (c.in_err-rest.ensures.reads c.args.depth))
+    rw (p.1, p.2) (l1.fails c.in_err-rest.field-0.0 (c.in_err-rest.ensures.reads c.args.depth))
 
 pub returns-clause-reads : goal.returns-clause-reads
 returns-clause-reads c =
+    let l0 = rule.print_parts c.args.depth (plain.place c.args.place) (plain.print c.args.print) c.args.at in
+    let l1 = after_part (rule.printed_next c.args.depth (plain.place c.args.place)) l0 _ _ c.in_ok-printed.ensures.reads in
     rw (view.stmt-print c.args.place c.args.print c.in_ok-printed.printed)
-    ((after_part (rule.printed_next c.args.depth (plain.place c.args.place)) (rule.print_parts c.args.depth (plain.place c.args.place) (plain.print c.args.print) c.args.at) _ _ c.in_ok-printed.ensures.reads).took _ _ (took_kind (k.mark m.Semicolon) c.args.depth c.requires.low _ _ _ c.in_ok-rest.ensures.reads.1))
+    (l1.took _ _ (took_kind (k.mark m.Semicolon) c.args.depth c.requires.low _ _ _ c.in_ok-rest.ensures.reads.1))
