@@ -1,91 +1,12 @@
 //! Token lists from words: how far each begins an expression, or where it is at fault; depth; the tree of a chain.
 
+use crate::words::push_words;
 use bit_ops::Binary;
-use dt_core::text::Text;
 use std::alloc::Global;
 use std::test::Fail;
 use vl_expr::{SynFault, parse_expr};
 use vl_tree::expression::Expr;
-use vl_tree::token::{Literal, Mark, System, Token, TokenKind};
-
-const MARKS: [(&str, Mark); 22] = [
-    ("(", Mark::OpenParen),
-    (")", Mark::CloseParen),
-    ("[", Mark::OpenBracket),
-    ("]", Mark::CloseBracket),
-    ("{", Mark::OpenBrace),
-    ("}", Mark::CloseBrace),
-    (",", Mark::Comma),
-    (";", Mark::Semicolon),
-    (":", Mark::Colon),
-    ("+:", Mark::PlusColon),
-    ("-:", Mark::MinusColon),
-    ("?", Mark::Question),
-    ("=", Mark::Equals),
-    ("*", Mark::Star),
-    ("+", Mark::Plus),
-    ("-", Mark::Minus),
-    ("<<<", Mark::ArithmeticLeft),
-    ("<=", Mark::LessEqual),
-    ("===", Mark::CaseEqual),
-    ("&", Mark::And),
-    ("||", Mark::OrOr),
-    ("~|", Mark::Nor),
-];
-
-fn mark_of(word: &str) -> Option<Mark> {
-    for (text, mark) in MARKS {
-        if word == text {
-            return Some(mark);
-        }
-    }
-    None
-}
-
-// The kind of a word: a number where it is `1`, a system name where it begins with `$`, a name where it is nothing
-// else.
-fn kind_of(alloc: Global, word: &str) -> Result<TokenKind, SynFault> {
-    if let Some(mark) = mark_of(word) {
-        return Ok(TokenKind::Mark(mark));
-    }
-    if word == "$clog2" {
-        return Ok(TokenKind::System(System::Clog2));
-    }
-    if word == "$stop" {
-        return Ok(TokenKind::System(System::Stop));
-    }
-    if word == "1" {
-        return Ok(TokenKind::Number(Literal {
-            width: 32,
-            sized: false,
-            signed: true,
-            value: 1,
-            wild: 0,
-        }));
-    }
-    let Ok(text) = Text::copied(alloc, word.as_bytes()) else {
-        return Err(SynFault::Memory);
-    };
-    Ok(TokenKind::Name(text))
-}
-
-// Appends a token for each word, so many times over.
-fn push_words(
-    alloc: Global,
-    tokens: &mut Vec<Token>,
-    count: u32,
-    source: &str,
-) -> Result<(), SynFault> {
-    for _ in 0..count {
-        for word in source.split_whitespace() {
-            let kind = kind_of(alloc, word)?;
-            let Ok(()) = tokens.push(Token { line: 1, kind }) else {
-                return Err(SynFault::Memory);
-            };
-        }
-    }
-    Ok(())
-}
+use vl_tree::token::Token;
 
 // How far the tokens from this number on begin an expression, or why they begin with none.
 fn end_of(alloc: Global, tokens: &[Token], at: u32) -> Result<u32, SynFault> {

@@ -4,3 +4,7 @@
 
 #[cfg(test)]
 mod expressions;
+#[cfg(test)]
+mod statements;
+#[cfg(test)]
+mod words;

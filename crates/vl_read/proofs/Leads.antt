@@ -80,15 +80,15 @@ leads_reads l low high same (Err e) p = l.fails e p
 
 module _ {T : Type 0} (P : List T → Type 0) (ts : List T) (none : P [])
     (next : (a : T) (after : List T) → ts ≡ a ∷ after → (y : List T) → P (a ∷ y)) where
-  front_more : (used : List T) (a : T) (after : List T) → ts ≡ used ++ a ∷ after → (y : List T) → P (used ++ a ∷ y)
+  pub front_more : (used : List T) (a : T) (after : List T) → ts ≡ used ++ a ∷ after → (y : List T) → P (used ++ a ∷ y)
   front_more [] a after e y = next a after e y
   front_more (b ∷ bs) a after e y = next b (bs ++ a ∷ after) e (bs ++ a ∷ y)
 
-  front_some : (used rest : List T) → ts ≡ used ++ rest → 1 ≤ length used → (y : List T) → P (used ++ y)
+  pub front_some : (used rest : List T) → ts ≡ used ++ rest → 1 ≤ length used → (y : List T) → P (used ++ y)
   front_some [] rest e s y = absurd (omega (arith, s))
   front_some (b ∷ bs) rest e s y = next b (bs ++ rest) e (bs ++ y)
 
-  front_all : (used rest : List T) → ts ≡ used ++ rest → P used
+  pub front_all : (used rest : List T) → ts ≡ used ++ rest → P used
   front_all [] rest e = none
   front_all (b ∷ bs) rest e = next b (bs ++ rest) e bs
 

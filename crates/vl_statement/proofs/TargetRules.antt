@@ -28,9 +28,9 @@ use Rattle.vl_read.proofs.Leads.{Leads, leads_on, leads_less, leads_as, leads_af
 use Rattle.vl_read.proofs.TokenRules.{somewhere, same_name, took_kind, link_kind}
 use denote.Ref.{Bor}
 use Rattle.std.specs.Prelude.{Some}
-use Rattle.vl_source.specs.declared.target.Start.{Start}
-use Rattle.vl_source.specs.declared.target.Start.TheVariants as start
-use Rattle.vl_source.specs.Targets.{EndsTarget, BeginsTarget, targets_of}
+use Rattle.vl_statement.specs.declared.target.Start.{Start}
+use Rattle.vl_statement.specs.declared.target.Start.TheVariants as start
+use Rattle.vl_statement.specs.Targets.{EndsTarget, BeginsTarget, targets_of}
 
 -- ---- the plain trees
 

@@ -13,8 +13,8 @@ use Rattle.vl_read.specs.declared.fault.Fault.{Fault}
 use Rattle.vl_read.specs.Reading.{Reads}
 use Rattle.vl_read.specs.Tokens.{Not}
 use Rattle.vl_read.specs.Commas.{EndsCommas}
-use Rattle.vl_source.specs.declared.target.Start.{Start}
-use Rattle.vl_source.specs.declared.target.Start.TheVariants as start
+use Rattle.vl_statement.specs.declared.target.Start.{Start}
+use Rattle.vl_statement.specs.declared.target.Start.TheVariants as start
 
 -- what a token of this kind begins, or that no target begins with it
 abbrev pub BeginsTarget : Kind → Option Start → Type 0

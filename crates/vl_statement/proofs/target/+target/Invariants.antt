@@ -8,9 +8,9 @@ use Rattle.vl_tree.specs.Depth.{target_depths, targets_depths, more_depths}
 use Rattle.vl_read.specs.declared.fault.Fault.{Fault}
 use Rattle.vl_read.specs.Reading.{Took, Refuses}
 use Rattle.vl_read.specs.Commas.{EndsCommas}
-use Rattle.vl_source.specs.Targets.{EndsTarget}
-use Rattle.vl_source.proofs.TargetRules.{joined}
-use Rattle.vl_source.proofs.target.+target.Given as goal
+use Rattle.vl_statement.specs.Targets.{EndsTarget}
+use Rattle.vl_statement.proofs.TargetRules.{joined}
+use Rattle.vl_statement.proofs.target.+target.Given as goal
 
 abbrev pub decreases-read_target : goal.decreases-read_target
 decreases-read_target l = 4 * length l.at

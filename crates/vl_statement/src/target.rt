@@ -2,7 +2,7 @@
 
 ghost use Rattle.std.specs.Prelude.{◌≤◌, ◌<◌, ◌+◌, IfOk, length};
 ghost use Rattle.vl_tree.specs.Token.{coded_kind};
-ghost use Rattle.vl_source.specs.Targets.{BeginsTarget, ReadsTarget, ReadsTargets};
+ghost use Rattle.vl_statement.specs.Targets.{BeginsTarget, ReadsTarget, ReadsTargets};
 
 use dt_core::limits::MAX_DEPTH;
 use dt_core::text::Text;

@@ -6,9 +6,9 @@ use Rattle.vl_tree.specs.Statements.{target_at}
 use Rattle.vl_tree.specs.Depth.{target_depths}
 use Rattle.vl_read.proofs.Leads.{leads_on}
 use Rattle.vl_read.proofs.CommaRules as list
-use Rattle.vl_source.specs.Targets.{EndsTarget}
-use Rattle.vl_source.proofs.TargetRules as rule
-use Rattle.vl_source.proofs.target.+target.Goals as goal
+use Rattle.vl_statement.specs.Targets.{EndsTarget}
+use Rattle.vl_statement.proofs.TargetRules as rule
+use Rattle.vl_statement.proofs.target.+target.Goals as goal
 
 pub read_target-returns-in_default-clause-reads : goal.read_target-returns-in_default-clause-reads
 read_target-returns-in_default-clause-reads t c =
