@@ -1,36 +1,48 @@
--- A text of one sound module has no fault of the phases that are read.
-use Rattle.std.proofs.Common.{◌≡◌, ◌+◌, ◌≤◌, ℕ, List, [], ◌∷◌, ◌++◌, take, drop, Ok, Err, inl, inr, sym, ◌∙◌, subst, arith}
-use Rattle.std.proofs.lemmas.List.{take-append-drop}
+-- A text has one first fault at most, and none where its tokens are a source.
+use Rattle.std.proofs.Common.{◌≡◌, ℕ, List, Ok, Err, inl, inr, sym, ◌∙◌, ap, subst}
+use Rattle.vl_tree.specs.declared.fault.FaultKind.TheVariants as k
 use Rattle.vl_tree.specs.Token.{Tokens}
 use Rattle.vl_tree.specs.Tree.{Module}
-use Rattle.vl_tree.specs.Syntax.{Source}
-use Rattle.vl_tree.specs.Placed.{Placed, placed}
+use Rattle.vl_tree.specs.Placed.{placed}
 use Rattle.vl_tree.specs.Modules.{source_at}
 use Rattle.vl_tree.specs.Depth.{source_depths}
-use Rattle.vl_tree.specs.Derives.{Within, Sinks, IsSource}
+use Rattle.vl_tree.proofs.OneFault.{one_reach, one_deep, not_both, derives_none}
 use Rattle.vl_front.specs.Spelled.{Fault, spelled}
-use Rattle.vl_front.specs.FirstFault.{AreSource, HasTreeFault, HasFirst}
+use Rattle.vl_front.specs.FirstFault.{AreSource, tree_fault, HasTreeFault, HasFirst}
 use Rattle.vl_front.specs.OneModule.{IsOneModule}
-
--- tokens don't both stand at 200 at most and have the last of their beginning at 201
-sinks_within : {T : Type 0} (us vs : List T) (ds : List ℕ) → Sinks us ds → Within (us ++ vs) ds → ⊥
-sinks_within [] vs ds p q = p
-sinks_within (a ∷ us) vs [] p q = q
-sinks_within (a ∷ []) vs (d ∷ ds) p q = omega (arith, p, q.0)
-sinks_within (a ∷ b ∷ us) vs (d ∷ ds) p q = sinks_within (b ∷ us) vs ds p.1 q.1
+use Rattle.vl_front.specs.Laws.{HaveOneFault, SourcesHaveNone}
 
 no_tree_fault : (ts : Tokens) (f : Fault) → AreSource ts → HasTreeFault ts f → ⊥
 no_tree_fault ts f s (n, inl (h, e)) = h.bad.none (s.0, s.1.derives)
-no_tree_fault ts f s (n, inr (h, e)) =
-    let us : List Placed = placed 0 ts in
-    let whole : take (n + 1) us ++ drop (n + 1) us ≡ us = take-append-drop (n + 1) us in
-    sinks_within (take (n + 1) us) (drop (n + 1) us) (source_depths s.0)
-    (h.each (drop (n + 1) us) s.0 (subst (λ x. source_at s.0 x []) (sym whole) s.1.derives))
-    (subst (λ x. Within x (source_depths s.0)) (sym whole) s.1.shallow)
+no_tree_fault ts f s (n, inr (h, e)) = derives_none source_at source_depths (placed 0 ts) s.0 n s.1.derives s.1.shallow h
+
+one_tree_fault : (ts : Tokens) (f g : Fault) → HasTreeFault ts f → HasTreeFault ts g → f ≡ g
+one_tree_fault ts f g (n, inl (a, d)) (m, inl (b, e)) =
+    d ∙ ap (λ x. tree_fault ts x k.Syntax) (one_reach source_at source_depths (placed 0 ts) n m a.bad.reach b.bad.reach) ∙ sym e
+one_tree_fault ts f g (n, inl (a, d)) (m, inr (b, e)) =
+    absurd (not_both source_at source_depths (placed 0 ts) m n b a.bad.reach a.shallow)
+one_tree_fault ts f g (n, inr (a, d)) (m, inl (b, e)) =
+    absurd (not_both source_at source_depths (placed 0 ts) n m a b.bad.reach b.shallow)
+one_tree_fault ts f g (n, inr (a, d)) (m, inr (b, e)) =
+    d ∙ ap (λ x. tree_fault ts x k.Deep) (one_deep source_at source_depths (placed 0 ts) n m a b) ∙ sym e
+
+-- a text is spelled of one list of tokens
+one_list : (text : List ℕ) (ts us : Tokens) → spelled text ≡ Ok ts → spelled text ≡ Ok us → ts ≡ us
+one_list text ts us d e = let s : Ok ts ≡ Ok us = sym d ∙ e in cc
+
+not_spelled : (text : List ℕ) (ts : Tokens) (f : Fault) → spelled text ≡ Ok ts → spelled text ≡ Err f → ⊥
+not_spelled text ts f d e = let s : Ok ts ≡ Err f = sym d ∙ e in absurd cc
+
+pub sources_have_none : SourcesHaveNone
+sources_have_none text ts f d s (inl e) = not_spelled text ts f d e
+sources_have_none text ts f d s (inr (us, e, h)) = no_tree_fault us f (subst AreSource (one_list text ts us d e) s) h
+
+pub one_fault : HaveOneFault
+one_fault text f g (inl d) (inl e) = let s : Err f ≡ Err g = sym d ∙ e in cc
+one_fault text f g (inl d) (inr (ts, e, h)) = absurd (not_spelled text ts f e d)
+one_fault text f g (inr (ts, d, h)) (inl e) = absurd (not_spelled text ts g d e)
+one_fault text f g (inr (ts, d, a)) (inr (us, e, b)) =
+    one_tree_fault ts f g a (subst (λ x. HasTreeFault x g) (sym (one_list text ts us d e)) b)
 
 pub no_fault : (text : List ℕ) (m : Module) (f : Fault) → IsOneModule text m → HasFirst text f → ⊥
-no_fault text m f i (inl e) = let s : Ok i.tokens ≡ Err f = sym i.is_spelled ∙ e in absurd cc
-no_fault text m f i (inr (ts, e, h)) =
-    let k : Ok i.tokens ≡ Ok ts = sym i.is_spelled ∙ e in
-    let same : i.tokens ≡ ts = cc in
-    no_tree_fault ts f (subst AreSource same i.source) h
+no_fault text m f i h = sources_have_none text i.tokens f i.is_spelled i.source h

@@ -25,24 +25,25 @@ use Rattle.vl_lex.specs.Tokens.{tokens_of}
 use Rattle.vl_front.specs.Spelled.{by_clean_text}
 use Rattle.vl_front.specs.Calls.Faults.{of_static, of_source, of_tree}
 use Rattle.vl_front.specs.FirstFault.{AreSource, line_of, line_at}
-use Rattle.vl_front.specs.Reads.{IsFirst, IsTreeFirst, Reads}
+use Rattle.vl_front.specs.Reads.{Reads}
+use Rattle.vl_front.specs.Calls.First.{IsSpellingFault, IsTreeFault}
 use Rattle.vl_front.specs.OneModule.{IsOneModule, IsDesign, IsNoDesign}
 use Rattle.vl_front.specs.declared.fault.DesignFault.{DesignFault}
 use Rattle.vl_front.specs.declared.fault.DesignFault.TheVariants as f
 
 -- a refusal of the tokens, with its line
-pub source_first : (ts : Tokens) (e : source.SynFault) → parsed.IsRefused ts e → IsTreeFirst ts (of_source ts e)
+pub source_first : (ts : Tokens) (e : source.SynFault) → parsed.IsRefused ts e → IsTreeFault ts (of_source ts e)
 source_first ts (refused_source.At n) h = (Some n, (n, inl (h, refl)))
 source_first ts (refused_source.Deep n) h = (Some n, (n, inr (h, refl)))
 source_first ts refused_source.Memory h = tt
 
 -- a fault of the clean text is the text's first
-pub clean_first : (text : List ℕ) (e : StaticFault) → HasFault (clean_text text) (fault_of e) → IsFirst (spelled text) (of_static e)
+pub clean_first : (text : List ℕ) (e : StaticFault) → HasFault (clean_text text) (fault_of e) → IsSpellingFault (spelled text) (of_static e)
 clean_first text (static.At phase place kind) h = (place.token, ap by_clean_text h)
 clean_first text static.Memory h = tt
 
 -- and so is one of the tokens, where the clean text has none
-pub token_first : (text : List ℕ) (clean : Text) (e : StaticFault) → clean_text text ≡ Ok clean → HasFault (tokens_of clean) (fault_of e) → IsFirst (spelled text) (of_static e)
+pub token_first : (text : List ℕ) (clean : Text) (e : StaticFault) → clean_text text ≡ Ok clean → HasFault (tokens_of clean) (fault_of e) → IsSpellingFault (spelled text) (of_static e)
 token_first text clean (static.At phase place kind) c h = (place.token, ap by_clean_text c ∙ h)
 token_first text clean static.Memory c h = tt
 
@@ -54,7 +55,7 @@ module _ (text : List ℕ) (ts : Tokens) (is : spelled text ≡ Ok ts) where
       subst (λ (x : Tokens). Derives x m) e i.derived
 
   -- why a text is refused whose tokens are no source
-  pub no_source : (e : DesignFault) → IsTreeFirst ts e → Reads text (Err e)
+  pub no_source : (e : DesignFault) → IsTreeFault ts e → Reads text (Err e)
   no_source (f.At phase line kind) h = (h.0, inr (ts, is, h.1))
   no_source f.NotYetBuilt h = absurd h
   no_source f.Memory h = tt

@@ -1,6 +1,6 @@
 -- The first static fault of a text, over the phases that are read: 1, its clean text, and 2, the tokens of that (`Spelled`); 3, the source
--- that the tokens derive (IEEE 1364-2005, annex A). A phase looks at a text only where those before have no fault. The phases'
--- numbers and the places are this project's own.
+-- that the tokens derive (IEEE 1364-2005, annex A, cut down to the profile). A phase looks at a text only where those before have no
+-- fault. The phases' numbers and the places are this project's own.
 use Rattle.std.specs.Prelude.{ℕ, ◌≡◌, ◌-◌, ◌⊎◌, min, List, length, Option, Some, None, Result, Ok, Err, slice_get}
 use Rattle.vl_tree.specs.declared.fault.FaultKind.{FaultKind}
 use Rattle.vl_tree.specs.declared.fault.FaultKind.TheVariants as k
@@ -20,11 +20,12 @@ line_of (Some (token line a)) = line
 abbrev pub line_at : Tokens → ℕ → ℕ
 line_at ts n = line_of (slice_get ts (min n (length ts - 1)))
 
--- a fault of phase 3 at the token of this number, or at the end
+-- a fault of phase 3 at the token of this number; where that is the number of the tokens, at the end
 abbrev pub tree_fault : Tokens → ℕ → FaultKind → Fault
 tree_fault ts n kind = record { phase = 3; line = line_at ts n; token = Some n; kind = kind }
 
--- the tokens are no source's: no source goes on with those up to this one, or this one is too deep
+-- the tokens are no source's: no source begins with those up to this one (at the end: they are none's), or this one is too deep; and
+-- those before it begin one, none of them too deep
 abbrev pub HasTreeFault : Tokens → Fault → Type 0
 HasTreeFault ts f =
     (n : ℕ) × ((IsSyntax (placed 0 ts) n × (f ≡ tree_fault ts n k.Syntax)) ⊎ (IsDeep (placed 0 ts) n × (f ≡ tree_fault ts n k.Deep)))

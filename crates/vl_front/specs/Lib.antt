@@ -1,5 +1,6 @@
 pub mod Spelled
 pub mod FirstFault
+pub mod Laws
 pub mod OneModule
 pub mod Reads
 pub mod Calls

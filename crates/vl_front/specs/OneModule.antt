@@ -21,7 +21,7 @@ pub record IsDesign (text : List ℕ) (m : Module) : Type 0 where
   pub here : IsOneModule text m
   pub only : (n : Module) → IsOneModule text n → n ≡ m
 
--- the text is a source, but no module's
+-- the text is a source, but no sound module's of this form
 pub record IsNoDesign (text : List ℕ) : Type 0 where
   pub tokens : Tokens
   pub is_spelled : spelled text ≡ Ok tokens

@@ -4,7 +4,8 @@
 //! clocked block), `vl_scope` (static faults), `vl_proc` (numbered design). Above: `dessert`.
 //! Promise: `read_design` answers the first fault of the clean text, of the tokens or of the grammar, with its line, exactly where
 //! there is one (`specs/FirstFault`); of the other texts it accepts exactly those of sound modules with one clocked block
-//! (`specs/OneModule`), and its design stands for the module (`StandsFor` of `vl_meaning`).
+//! (`specs/OneModule`), and its design stands for the module (`StandsFor` of `vl_meaning`). `fault_laws`: a text has one first fault
+//! at most, and none where its tokens are a source.
 //! Not said: which later fault a text has that is refused as `NotYetBuilt`; that memory is enough.
 #![tactic(auto)]
 
@@ -12,7 +13,9 @@ ghost use Rattle.std.specs.Prelude.{◌≡◌, ◌<◌, ◌≤◌, ◌^◌, ◌-
 ghost use Rattle.vl_tree.specs.Token.{all_coded};
 ghost use Rattle.vl_front.specs.Spelled.{spelled};
 ghost use Rattle.vl_front.specs.FirstFault.{AreSource};
-ghost use Rattle.vl_front.specs.Reads.{IsFirst, IsTreeFirst, Reads};
+ghost use Rattle.vl_front.specs.Laws.{HaveOneFault, SourcesHaveNone};
+ghost use Rattle.vl_front.specs.Reads.{Reads};
+ghost use Rattle.vl_front.specs.Calls.First.{IsSpellingFault, IsTreeFault};
 
 mod fault;
 
@@ -37,12 +40,18 @@ pub fn read_design(alloc: Global, text: &[u8]) -> Result<Flat, DesignFault>
     Ok(vl_proc::lower(alloc, &module)?)
 }
 
+/// Laws of the definition of a first fault: a text has one at most, and none where its tokens are a source.
+pub fn fault_laws()
+    ensures one { HaveOneFault }
+    ensures none { SourcesHaveNone }
+{}
+
 // The tokens of a text, or its first fault.
 fn read_tokens(alloc: Global, text: &[u8]) -> Result<Vec<Token>, DesignFault>
     requires { length text.now < 2 ^ 32 - 1 }
     ensures tokens { IfOk result (λ v. spelled text.now ≡ Ok (all_coded v.items)) }
     ensures few { IfOk result (λ v. length v.items ≤ MAX_TOKENS) }
-    ensures fault { IfErr result (IsFirst (spelled text.now)) }
+    ensures fault { IfErr result (IsSpellingFault (spelled text.now)) }
 {
     let clean = vl_pre::preprocess(alloc, text)?;
     Ok(vl_lex::lex(alloc, &clean)?)
@@ -52,7 +61,7 @@ fn read_tokens(alloc: Global, text: &[u8]) -> Result<Vec<Token>, DesignFault>
 fn check_source(alloc: Global, tokens: &[Token]) -> Result<(), DesignFault>
     requires { length tokens.now < 2 ^ 32 - 1 }
     ensures source { OnOk result (AreSource (all_coded tokens.now)) }
-    ensures fault { IfErr result (IsTreeFirst (all_coded tokens.now)) }
+    ensures fault { IfErr result (IsTreeFault (all_coded tokens.now)) }
 {
     if let Err(fault) = vl_source::parse_source(alloc, tokens) {
         return Err(in_source(tokens, fault));

@@ -4,3 +4,4 @@ pub mod SyntaxExamples
 pub mod BadPlaceExample
 pub mod NearestElseExample
 pub mod CounterSource
+pub mod OneFault
