@@ -1,12 +1,12 @@
 -- What is computed of one node after another, whether it reads bits of a range, is what the graph says of each.
 use Rattle.std.proofs.Common.{◌≡◌, ℕ, zero, suc, ◌+◌, ◌<◌, ◌||◌, Bool, true, false, List, [], ◌∷◌, ◌++◌, length, refl, sym, ap, ◌∙◌, subst, arith, append_assoc}
-use Rattle.std.specs.Prelude.{slice_get, slice_index_or, Some}
+use Rattle.std.specs.Prelude.{slice_get, slice_index, slice_index_or, Some}
 use Rattle.std.proofs.Math.Seq.{get_or-append_seam}
 use Rattle.std.proofs.lemmas.List.{get_or_append_left, length_push, append-nil}
 use Rattle.netlist.specs.Design.{Flat}
 use Rattle.netlist.specs.Fits.{IsWellFormed}
 use Rattle.netlist.specs.Graph.{operands, some_reads, node_reads, nodes_read, reads_bits}
-use Rattle.netlist.specs.Laws.{ReadsLaw}
+use Rattle.netlist.specs.Laws.{ReadsLaw, OperandsLaw}
 use Rattle.netlist.specs.declared.design.Range.{Range}
 use Rattle.netlist.specs.declared.node.Node.{Node}
 use Rattle.netlist.specs.declared.node.Operation.{Operation}
@@ -95,3 +95,13 @@ reads_law f q w = record {
   each = λ k x at. ap (λ p. slice_index_or (nodes_read q [] f.nodes) p false) (sym (zero_more k))
       ∙ answers q [] f.nodes (all_read f w) k x at;
 }
+
+below_at : (n : ℕ) (as' : List ℕ) (i : ℕ) → AreBelow n as' → i < length as' → slice_index as' i < n
+below_at n [] i h l = absurd (omega arith)
+below_at n (a ∷ as') zero h l = h.0
+below_at n (a ∷ as') (suc i) h l = below_at n as' i h.1 (omega arith)
+
+pub operands_law : OperandsLaw
+operands_law f k x i w at l =
+    below_at k (operands x.operation) i (operands_below k x.operation
+    (subst (λ n. Reads n x.operation) (zero_more k) (all_read f w k x at))) l

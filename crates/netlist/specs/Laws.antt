@@ -1,7 +1,7 @@
 -- What follows from well-formedness. This project's own.
 use Rattle.std.specs.Prelude.{◌≡◌, ℕ, ◌+◌, ◌<◌, ◌≤◌, Bool, false, List, [], length, slice_get, slice_index, slice_index_or, Some}
 use Rattle.netlist.specs.Design.{Flat}
-use Rattle.netlist.specs.Graph.{node_reads, nodes_read}
+use Rattle.netlist.specs.Graph.{operands, node_reads, nodes_read}
 use Rattle.netlist.specs.Fits.{IsWellFormed}
 use Rattle.netlist.specs.Order.{IsOrder, flat_val}
 use Rattle.netlist.specs.Run.{State, FlatSettles}
@@ -46,6 +46,11 @@ pub record AreReads (f : Flat) (q : Range) (rs : List Bool) : Type 0 where
 -- A law: a node of a well-formed design reads bits of a range exactly where its operation does, or a node that it reads.
 abbrev pub ReadsLaw : Type 0
 ReadsLaw = (f : Flat) (q : Range) → IsWellFormed f → AreReads f q (nodes_read q [] f.nodes)
+
+-- A law: a node of a well-formed design reads lower nodes alone.
+abbrev pub OperandsLaw : Type 0
+OperandsLaw = (f : Flat) (k : ℕ) (x : Node) (i : ℕ) → IsWellFormed f → slice_get f.nodes k ≡ Some x
+    → i < length (operands x.operation) → slice_index (operands x.operation) i < k
 
 -- v settles with a state and a row, and nothing else does
 pub record SettlesAlone (f : Flat) (s : State) (row : List ℕ) (v : Values) : Type 0 where
