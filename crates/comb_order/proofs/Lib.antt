@@ -1,3 +1,6 @@
 pub mod First
 pub mod Ranges
 pub mod Nodes
+pub mod Distances
+pub mod Rounds
+pub mod ByLabels

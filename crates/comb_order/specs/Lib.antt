@@ -1,2 +1,5 @@
 pub mod First
 pub mod Ranges
+pub mod Distance
+pub mod Round
+pub mod Labels

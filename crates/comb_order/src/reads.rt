@@ -13,8 +13,8 @@ use netlist::laws::reads_law;
 use netlist::node::Operation;
 use std::alloc::{AllocError, Global};
 
-// The rank of a part; 0 where it has none.
-fn rank(ranks: &[u64], part: u32) -> u64
+/// The rank of a part; 0 where it has none.
+pub(crate) fn rank(ranks: &[u64], part: u32) -> u64
     ensures { result ≡ slice_index ranks.now part }
 {
     match ranks.get(part as usize) {

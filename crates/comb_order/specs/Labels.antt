@@ -1,0 +1,16 @@
+-- Labels of driven parts that rise from each part to those that it reads. This project's own.
+use Rattle.std.specs.Prelude.{◌≡◌, ℕ, ◌<◌, ◌≤◌, List, length, slice_index}
+use Rattle.netlist.specs.Design.{Flat}
+use Rattle.netlist.specs.Graph.{ReadsPart}
+
+-- a part that is read has the higher label
+pub record AreRising (f : Flat) (labels : List ℕ) : Type 0 where
+  pub count : length labels ≡ length f.driven
+  pub each : (p q : ℕ) → ReadsPart f p q → slice_index labels p < slice_index labels q
+
+-- a part that is read has no lower label, and the higher one where it has a number below n
+pub record RiseBelow (f : Flat) (n : ℕ) (labels : List ℕ) : Type 0 where
+  pub count : length labels ≡ length f.driven
+  pub few : (p : ℕ) → slice_index labels p ≤ n
+  pub each : (p q : ℕ) → ReadsPart f p q → slice_index labels p ≤ slice_index labels q
+  pub higher : (p q : ℕ) → q < n → ReadsPart f p q → slice_index labels p < slice_index labels q
