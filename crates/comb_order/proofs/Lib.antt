@@ -4,3 +4,5 @@ pub mod Nodes
 pub mod Distances
 pub mod Rounds
 pub mod ByLabels
+pub mod Rises
+pub mod Exclusion

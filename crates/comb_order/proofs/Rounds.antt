@@ -49,7 +49,7 @@ record Goes (f : Flat) (to : ℕ) (ranks : List ℕ) (firsts : List (Option ℕ)
   step : Step f to ranks p (next_of firsts p)
   rank : slice_index ranks (next_of firsts p) ≡ m
 
-goes_first : (f : Flat) (to : ℕ) (ranks : List ℕ) (p m : ℕ) (q : Option ℕ) → AreDistances f to ranks
+pub goes_first : (f : Flat) (to : ℕ) (ranks : List ℕ) (p m : ℕ) (q : Option ℕ) → AreDistances f to ranks
     → IsFirst ranks (ReadsPart f p) q → ReadsIn f (suc m) p to → ComesBack ranks q
 goes_first f to ranks p m None d h way = absurd (h way.0 way.1)
 goes_first f to ranks p m (Some q) d h way =

@@ -1,7 +1,8 @@
 -- Labels of driven parts that rise from each part to those that it reads. This project's own.
-use Rattle.std.specs.Prelude.{◌≡◌, ℕ, ◌<◌, ◌≤◌, List, length, slice_index}
+use Rattle.std.specs.Prelude.{◌≡◌, ℕ, ◌<◌, ◌≤◌, ◌+◌, List, length, slice_index, Option}
 use Rattle.netlist.specs.Design.{Flat}
 use Rattle.netlist.specs.Graph.{ReadsPart}
+use Rattle.comb_order.specs.Distance.{ComesBack}
 
 -- a part that is read has the higher label
 pub record AreRising (f : Flat) (labels : List ℕ) : Type 0 where
@@ -14,3 +15,7 @@ pub record RiseBelow (f : Flat) (n : ℕ) (labels : List ℕ) : Type 0 where
   pub few : (p : ℕ) → slice_index labels p ≤ n
   pub each : (p q : ℕ) → ReadsPart f p q → slice_index labels p ≤ slice_index labels q
   pub higher : (p q : ℕ) → q < n → ReadsPart f p q → slice_index labels p < slice_index labels q
+
+-- a label after a pass: it is one more where the part doesn't come back
+abbrev pub Raised : List ℕ → Option ℕ → ℕ → ℕ → Type 0
+Raised ranks first old new = (ComesBack ranks first → new ≡ old) × ((ComesBack ranks first → ⊥) → new ≡ old + 1)

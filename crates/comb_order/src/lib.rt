@@ -1,9 +1,45 @@
 //! The order in which the driven parts of a numbered design settle, or the loop that keeps them from having one.
+//!
+//! Below: `netlist`, by its public contract alone. Above: what runs a design.
+//! Promise: `order` gives a list with all driven parts, each after those that it reads (`IsOrder` of
+//! `netlist/specs/Order`), or the loop (`IsLoop` there): then there is no order. A part reads a part where bits of the
+//! one reach bits of the other in the graph of nodes, so a vector may depend on itself, part by part. `laws` says that
+//! no design has both.
+//! How: a quick search makes labels and distances that nothing rests on; a pass over the nodes, which says what each
+//! part reads first, then judges them, and only where they are refused a slow search takes their place.
+//! Not said: how long a call takes; that memory is enough.
 #![tactic(auto)]
 
+ghost use Rattle.std.specs.Prelude.{IfOk, IfErr};
+ghost use Rattle.netlist.specs.Order.{IsOrder};
+ghost use Rattle.comb_order.specs.Found as says;
+
+pub mod answer;
 mod distance;
+pub mod laws;
 mod reads;
 mod round;
+mod search;
 mod sorted;
 
+use answer::{Found, LoopParts, Order, OrderFault};
+use netlist::flat::Flat;
+use search::searched;
+use std::alloc::Global;
 
+/// An order of the design's driven parts.
+///
+/// `Loop`: some driven part reads itself, directly or through others; its list begins with the least such part, and each
+/// next one is the part that the one before it reads with the fewest reads back to the first, ties to the least number.
+/// `Memory`: out of memory.
+pub fn order(alloc: Global, flat: &Flat) -> Result<Order, OrderFault>
+    ensures order { IfOk result (λ o. IsOrder flat.now o) }
+    ensures fault { IfErr result (λ e. says.HasCause flat.now e) }
+{
+    laws::exclusion_law();
+    match searched(alloc, flat) {
+        Ok(Found::Order(parts)) => Ok(Order { parts }),
+        Ok(Found::Loop(parts)) => Err(OrderFault::Loop(LoopParts { parts })),
+        Err(_) => Err(OrderFault::Memory),
+    }
+}
