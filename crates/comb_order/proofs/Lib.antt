@@ -6,3 +6,4 @@ pub mod Rounds
 pub mod ByLabels
 pub mod Rises
 pub mod Exclusion
+pub mod Quickly

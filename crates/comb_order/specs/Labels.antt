@@ -1,5 +1,5 @@
 -- Labels of driven parts that rise from each part to those that it reads. This project's own.
-use Rattle.std.specs.Prelude.{◌≡◌, ℕ, ◌<◌, ◌≤◌, ◌+◌, List, length, slice_index, Option}
+use Rattle.std.specs.Prelude.{◌≡◌, ℕ, ◌<◌, ◌≤◌, ◌+◌, List, length, slice_index, Option, Some, None}
 use Rattle.netlist.specs.Design.{Flat}
 use Rattle.netlist.specs.Graph.{ReadsPart}
 use Rattle.comb_order.specs.Distance.{ComesBack}
@@ -19,3 +19,12 @@ pub record RiseBelow (f : Flat) (n : ℕ) (labels : List ℕ) : Type 0 where
 -- a label after a pass: it is one more where the part doesn't come back
 abbrev pub Raised : List ℕ → Option ℕ → ℕ → ℕ → Type 0
 Raised ranks first old new = (ComesBack ranks first → new ≡ old) × ((ComesBack ranks first → ⊥) → new ≡ old + 1)
+
+-- a part's label is lower than that of what it reads first, or no higher
+abbrev pub StepsUp : List ℕ → Option ℕ → ℕ → Type 0
+StepsUp labels None p = Unit {0}
+StepsUp labels (Some q) p = slice_index labels p < slice_index labels q
+
+abbrev pub NeverFalls : List ℕ → Option ℕ → ℕ → Type 0
+NeverFalls labels None p = Unit {0}
+NeverFalls labels (Some q) p = slice_index labels p ≤ slice_index labels q

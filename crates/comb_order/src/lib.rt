@@ -16,7 +16,9 @@ ghost use Rattle.comb_order.specs.Found as says;
 
 pub mod answer;
 mod distance;
+mod guess;
 pub mod laws;
+mod quick;
 mod reads;
 mod round;
 mod search;

@@ -42,8 +42,8 @@ fn first_of(ranks: &[u64], part: Option<u32>, other: Option<u32>) -> Option<u32>
     }
 }
 
-// Whether the range stands before the other.
-fn is_before(range: &Range, other: &Range) -> bool
+/// Whether the range stands before the other.
+pub(crate) fn is_before(range: &Range, other: &Range) -> bool
     ensures { IsTrue result ↔ IsBefore range.now other.now }
 {
     let end = u64::from(range.low) + u64::from(range.width);
@@ -59,8 +59,8 @@ fn overlaps(range: &Range, other: &Range) -> bool
     range.signal == other.signal && u64::from(range.low) < other_end && u64::from(other.low) < end
 }
 
-// How many of the first parts stand before the range, where they stand in order.
-fn first_not_before(driven: &[DrivenPart], range: &Range) -> usize
+/// How many of the first parts stand before the range, where they stand in order.
+pub(crate) fn first_not_before(driven: &[DrivenPart], range: &Range) -> usize
     requires { DrivenInOrder driven.now }
     ensures { IsStart driven.now range.now result }
 {
