@@ -16,6 +16,7 @@ ghost use Rattle.comb_order.specs.Found as says;
 
 pub mod answer;
 mod distance;
+mod graph;
 mod guess;
 pub mod laws;
 mod quick;
