@@ -9,7 +9,7 @@ use Rattle.netlist.specs.Fits.{IsWellFormed}
 use Rattle.netlist.specs.Graph.{ReadsPart, ReadsIn, reads}
 use Rattle.netlist.specs.declared.design.DrivenPart.{DrivenPart}
 use Rattle.comb_order.specs.First.{ComesFirst, IsFirst, AreFirst}
-use Rattle.comb_order.specs.Distance.{AreDistances, AreSupported, AreSettled, one_read_more, ComesBack}
+use Rattle.comb_order.specs.Distance.{AreDistances, AreSupported, AreSettled, HasSupport, one_read_more, ComesBack}
 use Rattle.comb_order.specs.declared.distance.TheConstants.{NEVER}
 
 -- ---- a part that is read is there
@@ -201,3 +201,22 @@ settled_so_far ranks firsts to i old new p l other = elim (cases_lt p i) [
       subst (λ k. slice_index ranks k ≤ one_read_more ranks (slice_index_or firsts k None)) e
       (new (λ same. other (sym e ∙ same))))
 ]
+
+-- ---- ranks that were judged
+
+supporter : (f : Flat) (ranks : List ℕ) (p : ℕ) (first : Option ℕ) → IsFirst ranks (ReadsPart f p) first
+    → IsSomeAnd first (λ q. slice_index ranks q < slice_index ranks p)
+    → (q : ℕ) × ReadsPart f p q × (slice_index ranks q < slice_index ranks p)
+supporter f ranks p None h s = absurd s
+supporter f ranks p (Some q) h s = (q, h.0, s)
+
+pub all_supported : (f : Flat) (to : ℕ) (ranks : List ℕ) (firsts : List (Option ℕ)) → to < length f.driven
+    → length ranks ≡ length f.driven → AreFirst f ranks firsts
+    → ((p : ℕ) → p < length f.driven → HasSupport to ranks (slice_index_or firsts p None) p)
+    → AreSupported f to ranks
+all_supported f to ranks firsts there count first each = record {
+  count = count;
+  start = (each to there).start refl;
+  each = λ p l other low. supporter f ranks p (slice_index_or firsts p None) (first.each p l)
+      ((each p l).each other low);
+}

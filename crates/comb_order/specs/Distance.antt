@@ -1,5 +1,5 @@
 -- How far driven parts are from one of them, in reads. This project's own.
-use Rattle.std.specs.Prelude.{◌≡◌, ◌≢◌, ℕ, suc, ◌+◌, ◌<◌, ◌≤◌, min, List, length, slice_index, Option, Some, None}
+use Rattle.std.specs.Prelude.{◌≡◌, ◌≢◌, ℕ, suc, ◌+◌, ◌<◌, ◌≤◌, min, List, length, slice_index, Option, Some, None, IsSomeAnd}
 use Rattle.netlist.specs.Design.{Flat}
 use Rattle.netlist.specs.Graph.{ReadsPart, ReadsIn}
 use Rattle.comb_order.specs.declared.distance.TheConstants.{NEVER}
@@ -32,3 +32,8 @@ one_read_more ranks (Some q) = min (slice_index ranks q + 1) NEVER
 abbrev pub ComesBack : List ℕ → Option ℕ → Type 0
 ComesBack ranks None = ⊥
 ComesBack ranks (Some q) = slice_index ranks q < NEVER
+
+-- the rank of a part is 0 at the part `to`, and elsewhere, below NEVER, more than that of the part that it reads first
+pub record HasSupport (to : ℕ) (ranks : List ℕ) (first : Option ℕ) (p : ℕ) : Type 0 where
+  pub start : p ≡ to → slice_index ranks p ≡ 0
+  pub each : p ≢ to → slice_index ranks p < NEVER → IsSomeAnd first (λ q. slice_index ranks q < slice_index ranks p)

@@ -27,8 +27,22 @@ mod sorted;
 
 use answer::{Found, LoopParts, Order, OrderFault};
 use netlist::flat::Flat;
+use quick::quick;
 use search::searched;
-use std::alloc::Global;
+use std::alloc::{AllocError, Global};
+
+// The order or the loop of a design: by labels of a quick search where they tell it, else part by part.
+fn decided(alloc: Global, flat: &Flat) -> Result<Found, AllocError>
+    ensures { IfOk result (λ found. says.Holds flat.now found) }
+{
+    let labels = guess::labels(alloc, flat)?;
+    if labels.len() == flat.driven().len() {
+        if let Some(found) = quick(alloc, flat, &labels)? {
+            return Ok(found);
+        }
+    }
+    searched(alloc, flat)
+}
 
 /// An order of the design's driven parts.
 ///
@@ -40,7 +54,7 @@ pub fn order(alloc: Global, flat: &Flat) -> Result<Order, OrderFault>
     ensures fault { IfErr result (λ e. says.HasCause flat.now e) }
 {
     laws::exclusion_law();
-    match searched(alloc, flat) {
+    match decided(alloc, flat) {
         Ok(Found::Order(parts)) => Ok(Order { parts }),
         Ok(Found::Loop(parts)) => Err(OrderFault::Loop(LoopParts { parts })),
         Err(_) => Err(OrderFault::Memory),
