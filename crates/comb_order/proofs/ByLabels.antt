@@ -1,13 +1,12 @@
 -- Parts that stand by rising labels stand in an order.
-use Rattle.std.proofs.Common.{◌≡◌, ℕ, ◌+◌, ◌-◌, ◌^◌, ◌<◌, ◌≤◌, inl, inr, List, length, get_or, refl, sym, ap, ◌∙◌, subst, arith}
+use Rattle.std.proofs.Common.{◌≡◌, ℕ, ◌-◌, ◌^◌, ◌<◌, ◌≤◌, inl, inr, List, length, refl, ◌∙◌, subst, arith}
 use Rattle.std.specs.Prelude.{slice_index}
-use Rattle.std.specs.List.{All, Contains}
+use Rattle.std.specs.List.{Contains}
 use Rattle.std.specs.List.Sorted.{IsPermutation, IsNonDecreasingBy}
 use Rattle.std.proofs.lemmas.Bool.{cases_lt}
 use Rattle.std.proofs.lemmas.List.Elements.{All-contains, All-from_get_or, Contains-get_or}
 use Rattle.std.proofs.lemmas.List.Sorted.{Contains-permutation}
 use Rattle.netlist.specs.Design.{Flat}
-use Rattle.netlist.specs.Graph.{ReadsPart}
 use Rattle.netlist.specs.Order.{IsOrder}
 use Rattle.comb_order.specs.Labels.{AreRising}
 
@@ -27,9 +26,9 @@ pub sorted_order : (f : Flat) (labels old new : List ℕ) → AreRising f labels
 sorted_order f labels old new rise top count all long moved order = record {
   count = long ∙ count;
   each = λ p l.
-    let there : p < length old = omega (arith, l, count) in
-    at_from new p (Contains-permutation old new p moved
-    (subst (λ x. Contains old x) (all p there) (Contains-get_or old p 0 there)));
+      let there : p < length old = omega (arith, l, count) in
+      at_from new p (Contains-permutation old new p moved
+      (subst (λ x. Contains old x) (all p there) (Contains-get_or old p 0 there)));
   after = λ i j a b reads. elim (cases_lt j i) [
     | inl before ↦ before
     | inr not_before ↦

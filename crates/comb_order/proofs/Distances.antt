@@ -1,15 +1,14 @@
 -- Ranks that are supported and settled are distances.
-use Rattle.std.proofs.Common.{◌≡◌, ◌≢◌, ℕ, zero, suc, ◌+◌, ◌-◌, ◌^◌, ◌<◌, ◌≤◌, ◌⊎◌, inl, inr, min, List, [], ◌∷◌, length, get_or, refl, sym, ap, ◌∙◌, subst, arith, get_or-set_other, get_or-set_same, length-set}
+use Rattle.std.proofs.Common.{◌≡◌, ◌≢◌, ℕ, zero, suc, ◌+◌, ◌^◌, ◌<◌, ◌≤◌, ◌⊎◌, inl, inr, List, [], ◌∷◌, length, refl, sym, ap, ◌∙◌, subst, arith, get_or-set_other, get_or-set_same, length-set}
 use Rattle.std.specs.Prelude.{Option, None, Some, slice_index, slice_index_or, slice_set, slice_get, IsSomeAnd, sum, IsTrue}
 use Rattle.std.proofs.lemmas.Bool.{cases_lt, cases_eq}
 use Rattle.std.proofs.lemmas.Option.{slice_get_within}
 use Rattle.std.proofs.lemmas.List.Sums.{sum_by-set}
 use Rattle.netlist.specs.Design.{Flat}
-use Rattle.netlist.specs.Fits.{IsWellFormed}
 use Rattle.netlist.specs.Graph.{ReadsPart, ReadsIn, reads}
 use Rattle.netlist.specs.declared.design.DrivenPart.{DrivenPart}
 use Rattle.comb_order.specs.First.{ComesFirst, IsFirst, AreFirst}
-use Rattle.comb_order.specs.Distance.{AreDistances, AreSupported, AreSettled, HasSupport, one_read_more, ComesBack}
+use Rattle.comb_order.specs.Distance.{AreDistances, AreSupported, AreSettled, HasSupport, one_read_more}
 use Rattle.comb_order.specs.declared.distance.TheConstants.{NEVER}
 
 -- ---- a part that is read is there
@@ -51,15 +50,15 @@ without : (v : ℕ) (xs : List ℕ) → Has v xs → Without v xs
 without v [] h = absurd h
 without v (x ∷ xs) h = elim h [
   | inl e ↦ record {
-      rest = xs;
-      count = refl;
-      keeps = λ u other g. elim g [ | inl own ↦ absurd (other (own ∙ sym e)) | inr later ↦ later ];
-    }
+    rest = xs;
+    count = refl;
+    keeps = λ u other g. elim g [ inl own ↦ absurd (other (own ∙ sym e)) | inr later ↦ later ];
+  }
   | inr g ↦ (let w = without v xs g in record {
-      rest = x ∷ w.rest;
-      count = ap suc w.count;
-      keeps = λ u other k. elim k [ | inl own ↦ inl own | inr later ↦ inr (w.keeps u other later) ];
-    })
+    rest = x ∷ w.rest;
+    count = ap suc w.count;
+    keeps = λ u other k. elim k [ inl own ↦ inl own | inr later ↦ inr (w.keeps u other later) ];
+  })
 ]
 
 fewer : (k : ℕ) (xs : List ℕ) → ((v : ℕ) → v ≤ k → Has v xs) → k < length xs

@@ -1,9 +1,9 @@
 -- Where there is an order each way through parts goes down in it, so no part reads itself.
-use Rattle.std.proofs.Common.{◌≡◌, ℕ, zero, suc, ◌+◌, ◌-◌, ◌<◌, ◌≤◌, List, length, refl, sym, ap, ◌∙◌, subst, arith}
+use Rattle.std.proofs.Common.{◌≡◌, ℕ, zero, suc, ◌+◌, ◌-◌, ◌<◌, ◌≤◌, List, length, sym, ◌∙◌, subst, arith}
 use Rattle.std.specs.Prelude.{slice_index, slice_index_or}
 use Rattle.netlist.specs.Design.{Flat}
 use Rattle.netlist.specs.Graph.{ReadsPart, ReadsIn}
-use Rattle.netlist.specs.Order.{IsOrder, IsLoop}
+use Rattle.netlist.specs.Order.{IsOrder}
 use Rattle.comb_order.specs.Laws.{ExclusionLaw}
 use Rattle.comb_order.proofs.Distances.{read_there, reader_there}
 

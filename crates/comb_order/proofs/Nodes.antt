@@ -1,5 +1,5 @@
 -- What a node reads first, from what its operands do.
-use Rattle.std.proofs.Common.{◌≡◌, ℕ, suc, ◌<◌, ◌≤◌, ◌⊎◌, ◌||◌, inl, inr, Bool, true, false, List, [], ◌∷◌, length, refl, sym, ap, ◌∙◌, ◌+◌, ◌++◌, get_or, subst, arith}
+use Rattle.std.proofs.Common.{◌≡◌, ℕ, suc, ◌<◌, ◌⊎◌, ◌||◌, inl, inr, Bool, true, false, List, [], ◌∷◌, length, refl, sym, ap, ◌∙◌, ◌+◌, ◌++◌, get_or, subst, arith}
 use Rattle.std.specs.Prelude.{Option, None, Some, slice_get, slice_index, slice_index_or, IsSomeAnd}
 use Rattle.std.proofs.lemmas.Bool.{or_cases, cases_lt}
 use Rattle.std.proofs.lemmas.List.{get_or_append_left, get_or_push}
@@ -8,7 +8,7 @@ use Rattle.std.proofs.lemmas.Option.{slice_get-get_or, slice_get_within}
 use Rattle.netlist.specs.Design.{Flat}
 use Rattle.netlist.specs.Fits.{IsWellFormed, DrivenFits}
 use Rattle.netlist.specs.Graph.{operands, reads, reads_bits, some_reads, nodes_read, ReadsPart}
-use Rattle.netlist.specs.Laws.{AreReads, ReadsLaw, OperandsLaw}
+use Rattle.netlist.specs.Laws.{ReadsLaw, OperandsLaw}
 use Rattle.netlist.specs.declared.design.Range.{Range}
 use Rattle.netlist.specs.declared.design.DrivenPart.{DrivenPart}
 use Rattle.netlist.specs.declared.node.Node.{Node}
@@ -53,13 +53,13 @@ among : (f : Flat) (ranks : List ℕ) (firsts : List (Option ℕ)) (P : ℕ → 
     → AllKnown f ranks firsts as' → IsFirst ranks P best
     → IsFirst ranks (λ q. P q ⊎ AnyReads f as' q) (first_among ranks firsts best as')
 among f ranks firsts P best [] known h =
-    first_same ranks P (λ q. P q ⊎ ⊥) best (λ q p. inl p) (λ q e. elim e [ | inl p ↦ p | inr n ↦ absurd n ]) h
+    first_same ranks P (λ q. P q ⊎ ⊥) best (λ q p. inl p) (λ q e. elim e [ inl p ↦ p | inr n ↦ absurd n ]) h
 among f ranks firsts P best (a ∷ as') known h =
     first_same ranks (λ q. (P q ⊎ NodeReads f a q) ⊎ AnyReads f as' q)
     (λ q. P q ⊎ (NodeReads f a q ⊎ AnyReads f as' q))
     (first_among ranks firsts (first_of ranks best (slice_index_or firsts a None)) as')
-    (λ q e. elim e [ | inl p ↦ elim p [ | inl x ↦ inl x | inr x ↦ inr (inl x) ] | inr x ↦ inr (inr x) ])
-    (λ q e. elim e [ | inl x ↦ inl (inl x) | inr p ↦ elim p [ | inl x ↦ inl (inr x) | inr x ↦ inr x ] ])
+    (λ q e. elim e [ inl p ↦ elim p [ inl x ↦ inl x | inr x ↦ inr (inl x) ] | inr x ↦ inr (inr x) ])
+    (λ q e. elim e [ inl x ↦ inl (inl x) | inr p ↦ elim p [ inl x ↦ inl (inr x) | inr x ↦ inr x ] ])
     (among f ranks firsts (λ q. P q ⊎ NodeReads f a q)
     (first_of ranks best (slice_index_or firsts a None)) as' known.1
     (first_of_both ranks P (NodeReads f a) best (slice_index_or firsts a None) h known.0))
@@ -72,15 +72,15 @@ AnyOf f (a ∷ as') x = IsSomeAnd x (λ y. reads f a y ≡ true) ⊎ AnyOf f as'
 
 any_of : (f : Flat) (as' : List ℕ) (q : ℕ) → AnyReads f as' q → AnyOf f as' (slice_get f.driven q)
 any_of f [] q h = h
-any_of f (a ∷ as') q h = elim h [ | inl x ↦ inl x | inr x ↦ inr (any_of f as' q x) ]
+any_of f (a ∷ as') q h = elim h [ inl x ↦ inl x | inr x ↦ inr (any_of f as' q x) ]
 
 of_any : (f : Flat) (as' : List ℕ) (q : ℕ) → AnyOf f as' (slice_get f.driven q) → AnyReads f as' q
 of_any f [] q h = h
-of_any f (a ∷ as') q h = elim h [ | inl x ↦ inl x | inr x ↦ inr (of_any f as' q x) ]
+of_any f (a ∷ as') q h = elim h [ inl x ↦ inl x | inr x ↦ inr (of_any f as' q x) ]
 
 none_of : (f : Flat) (as' : List ℕ) → AnyOf f as' None → ⊥
 none_of f [] h = h
-none_of f (a ∷ as') h = elim h [ | inl x ↦ x | inr x ↦ none_of f as' x ]
+none_of f (a ∷ as') h = elim h [ inl x ↦ x | inr x ↦ none_of f as' x ]
 
 true_or : (a b : Bool) → a ≡ true → (a || b) ≡ true
 true_or a b h = ap (λ x. x || b) h
@@ -104,14 +104,14 @@ some_any : (f : Flat) (as' : List ℕ) (y : DrivenPart) → some_reads (nodes_re
 some_any f [] y h = absurd cc
 some_any f (a ∷ as') y h = elim (or_cases (slice_index_or (nodes_read y.range [] f.nodes) a false)
     (some_reads (nodes_read y.range [] f.nodes) as') h) [
-  | inl x ↦ inl x
-  | inr x ↦ inr (some_any f as' y x)
-]
+      | inl x ↦ inl x
+      | inr x ↦ inr (some_any f as' y x)
+    ]
 
 node_reads_to : (f : Flat) → IsWellFormed f → ReadsLaw → (n : ℕ) (x : Node) → slice_get f.nodes n ≡ Some x
     → (p : Option DrivenPart) → (IsSomeAnd p (λ y. reads_bits y.range x.operation ≡ true)
     ⊎ AnyOf f (operands x.operation) p) → IsSomeAnd p (λ y. reads f n y ≡ true)
-node_reads_to f w law n x at None h = elim h [ | inl a ↦ a | inr a ↦ none_of f (operands x.operation) a ]
+node_reads_to f w law n x at None h = elim h [ inl a ↦ a | inr a ↦ none_of f (operands x.operation) a ]
 node_reads_to f w law n x at (Some y) h =
     (law f y.range w).each n x at ∙ elim h [
       | inl a ↦ true_or (reads_bits y.range x.operation)
@@ -153,7 +153,7 @@ node_first f w reads_law lower ranks firsts n x own at count known h =
     (first_of ranks own through)
     (λ q e. node_reads_to f w reads_law n x at (slice_get f.driven q) (elim e [
       | inl a ↦ inl a
-      | inr a ↦ elim a [ | inl b ↦ absurd b | inr b ↦ inr (any_of f as' q b) ]
+      | inr a ↦ elim a [ inl b ↦ absurd b | inr b ↦ inr (any_of f as' q b) ]
     ]))
     (λ q e. elim (node_reads_from f w reads_law n x at (slice_get f.driven q) e) [
       | inl a ↦ inl a

@@ -1,5 +1,5 @@
 -- Labels that rise tell an order, and labels that never fall tell that a part is the least of those that read themselves.
-use Rattle.std.proofs.Common.{◌≡◌, ℕ, zero, suc, ◌+◌, ◌<◌, ◌≤◌, ◌⊎◌, inl, inr, List, length, sym, ap, ◌∙◌, subst, arith}
+use Rattle.std.proofs.Common.{◌≡◌, ℕ, zero, suc, ◌<◌, ◌≤◌, inl, inr, List, length, ap, arith}
 use Rattle.std.specs.Prelude.{Option, None, Some, slice_index, slice_index_or}
 use Rattle.std.proofs.Math.Logic.{⊎_elim}
 use Rattle.std.proofs.lemmas.Bool.{cases_lt}
@@ -8,7 +8,7 @@ use Rattle.netlist.specs.Graph.{ReadsPart, ReadsIn}
 use Rattle.comb_order.specs.First.{ComesFirst, IsFirst, AreFirst}
 use Rattle.comb_order.specs.Labels.{AreRising, StepsUp, NeverFalls}
 use Rattle.comb_order.specs.Round.{IsLeast}
-use Rattle.comb_order.proofs.Distances.{reader_there, read_there}
+use Rattle.comb_order.proofs.Distances.{reader_there}
 
 no_lower : (ranks : List ℕ) (a b : ℕ) → ComesFirst ranks a b → slice_index ranks a ≤ slice_index ranks b
 no_lower ranks a b h =
@@ -31,9 +31,9 @@ pub rise_all : (f : Flat) (labels : List ℕ) (firsts : List (Option ℕ)) → l
 rise_all f labels firsts count first steps = record {
   count = count;
   each = λ p q reads.
-    let there : p < length f.driven = reader_there f p q reads in
-    up f labels p q (slice_index_or firsts p None) (first.each p there) (steps p (omega (arith, there, first.count)))
-        reads;
+      let there : p < length f.driven = reader_there f p q reads in
+      up f labels p q (slice_index_or firsts p None) (first.each p there) (steps p (omega (arith, there, first.count)))
+      reads;
 }
 
 rises_along : (f : Flat) (labels : List ℕ) (firsts : List (Option ℕ)) → AreFirst f labels firsts
@@ -43,7 +43,7 @@ rises_along f labels firsts first keeps zero p q h = (let e = ap (slice_index la
 rises_along f labels firsts first keeps (suc n) p q h =
     let there : p < length f.driven = reader_there f p h.0 h.1 in
     let a = level f labels p h.0 (slice_index_or firsts p None) (first.each p there)
-        (keeps p (omega (arith, there, first.count))) h.1 in
+    (keeps p (omega (arith, there, first.count))) h.1 in
     let b = rises_along f labels firsts first keeps n h.0 q h.2 in omega (arith, a, b)
 
 pub least_from : (f : Flat) (labels : List ℕ) (firsts : List (Option ℕ)) (s : ℕ) → AreFirst f labels firsts

@@ -1,5 +1,5 @@
 -- Labels that count the parts to which a part doesn't come rise from each part to those that it reads.
-use Rattle.std.proofs.Common.{◌≡◌, ℕ, zero, suc, ◌+◌, ◌-◌, ◌^◌, ◌<◌, ◌≤◌, ◌⊎◌, inl, inr, List, length, get_or, refl, sym, ap, ◌∙◌, subst, arith}
+use Rattle.std.proofs.Common.{◌≡◌, ℕ, suc, ◌+◌, ◌-◌, ◌<◌, ◌⊎◌, inl, inr, List, length, get_or, sym, ap, ◌∙◌, subst, arith}
 use Rattle.std.specs.Prelude.{Option, None, Some, slice_index, slice_index_or}
 use Rattle.std.proofs.lemmas.Bool.{cases_lt, cases_eq}
 use Rattle.std.proofs.lemmas.List.{get_or_past, get_or_read}
@@ -47,20 +47,20 @@ pub rise_more : (f : Flat) (n : ℕ) (ranks : List ℕ) (firsts : List (Option �
     → length new ≡ length old → RiseBelow f n old → RiseBelow f (n + 1) new
 rise_more f n ranks firsts old new d first alone raised long r =
     let step : (p : ℕ) → p < length f.driven
-        → Raised ranks (slice_index_or firsts p None) (slice_index old p) (slice_index new p) =
-        λ p l. raised p (omega (arith, l, r.count)) in
+    → Raised ranks (slice_index_or firsts p None) (slice_index old p) (slice_index new p) =
+    λ p l. raised p (omega (arith, l, r.count)) in
     let pair : (p q : ℕ) → ReadsPart f p q → slice_index old p < slice_index old q
-        → slice_index new p < slice_index new q = λ p q reads less.
-        (let a = step p (reader_there f p q reads) in
-        let b = step q (read_there f p q reads) in
-        elim (back_cases ranks (slice_index_or firsts p None)) [
-          | inl back ↦ (let x = a.0 back in elim (back_cases ranks (slice_index_or firsts q None)) [
-              | inl too ↦ (let y = b.0 too in omega (arith, x, y, less))
-              | inr not_too ↦ (let y = b.1 not_too in omega (arith, x, y, less))
-            ])
-          | inr never ↦ (let x = a.1 never in
-              let y = b.1 (λ too. never (through f n ranks firsts p q d first reads too)) in omega (arith, x, y, less))
-        ]) in
+    → slice_index new p < slice_index new q = λ p q reads less.
+    (let a = step p (reader_there f p q reads) in
+    let b = step q (read_there f p q reads) in
+    elim (back_cases ranks (slice_index_or firsts p None)) [
+      | inl back ↦ (let x = a.0 back in elim (back_cases ranks (slice_index_or firsts q None)) [
+        | inl too ↦ (let y = b.0 too in omega (arith, x, y, less))
+        | inr not_too ↦ (let y = b.1 not_too in omega (arith, x, y, less))
+      ])
+      | inr never ↦ (let x = a.1 never in
+          let y = b.1 (λ too. never (through f n ranks firsts p q d first reads too)) in omega (arith, x, y, less))
+    ]) in
     record {
       count = long ∙ r.count;
       few = λ p. elim (cases_lt p (length old)) [
@@ -73,25 +73,25 @@ rise_more f n ranks firsts old new d first alone raised long r =
             omega (arith, x))
       ];
       each = λ p q reads.
-        (let a = step p (reader_there f p q reads) in
-        let b = step q (read_there f p q reads) in
-        let no_more = r.each p q reads in
-        elim (back_cases ranks (slice_index_or firsts p None)) [
-          | inl back ↦ (let x = a.0 back in elim (back_cases ranks (slice_index_or firsts q None)) [
+          (let a = step p (reader_there f p q reads) in
+          let b = step q (read_there f p q reads) in
+          let no_more = r.each p q reads in
+          elim (back_cases ranks (slice_index_or firsts p None)) [
+            | inl back ↦ (let x = a.0 back in elim (back_cases ranks (slice_index_or firsts q None)) [
               | inl too ↦ (let y = b.0 too in omega (arith, x, y, no_more))
               | inr not_too ↦ (let y = b.1 not_too in omega (arith, x, y, no_more))
             ])
-          | inr never ↦ (let x = a.1 never in
-              let y = b.1 (λ too. never (through f n ranks firsts p q d first reads too)) in
-              omega (arith, x, y, no_more))
-        ]);
+            | inr never ↦ (let x = a.1 never in
+                let y = b.1 (λ too. never (through f n ranks firsts p q d first reads too)) in
+                omega (arith, x, y, no_more))
+          ]);
       higher = λ p q l reads. elim (cases_lt q n) [
         | inl less ↦ pair p q reads (r.higher p q less reads)
         | inr last ↦
             let e : q ≡ n = omega (arith, l, last) in
             let x = (step p (reader_there f p q reads)).0 (back_from f n ranks firsts p 0 d first (q, reads, e)) in
             let y = (step q (read_there f p q reads)).1
-                (λ back. alone (subst (λ k. ComesBack ranks (slice_index_or firsts k None)) e back)) in
+            (λ back. alone (subst (λ k. ComesBack ranks (slice_index_or firsts k None)) e back)) in
             let no_more = r.each p q reads in omega (arith, x, y, no_more)
       ];
     }

@@ -1,5 +1,5 @@
 -- Going on from each part to the one that it reads first, where ranks are distances, comes back.
-use Rattle.std.proofs.Common.{◌≡◌, ◌≢◌, ℕ, zero, suc, ◌+◌, ◌-◌, ◌^◌, ◌<◌, ◌≤◌, ◌⊎◌, inl, inr, List, [], ◌∷◌, ◌++◌, length, get_or, refl, sym, ap, ◌∙◌, subst, arith}
+use Rattle.std.proofs.Common.{◌≡◌, ℕ, suc, ◌+◌, ◌-◌, ◌<◌, ◌≤◌, inl, inr, List, [], ◌∷◌, ◌++◌, length, refl, sym, ap, ◌∙◌, subst, arith}
 use Rattle.std.specs.Prelude.{Option, None, Some, slice_index, slice_index_or}
 use Rattle.std.specs.Option.{unwrap_or}
 use Rattle.std.proofs.lemmas.Bool.{cases_lt}
@@ -36,11 +36,11 @@ nearest_first f to ranks p (Some q) d h back =
         back = d.back q there back;
         fewest = no_more;
         least = λ r reads way.
-          (let a : ComesFirst ranks q r = h.1 r reads in
-          let b : slice_index ranks r ≤ slice_index ranks q =
-          d.fewest r (slice_index ranks q) (read_there f p r reads) way in
-          ⊎_elim (λ (x : slice_index ranks q < slice_index ranks r). omega (arith, x, b))
-          (λ (x : (slice_index ranks q ≡ slice_index ranks r) × (q ≤ r)). x.1) a);
+            (let a : ComesFirst ranks q r = h.1 r reads in
+            let b : slice_index ranks r ≤ slice_index ranks q =
+            d.fewest r (slice_index ranks q) (read_there f p r reads) way in
+            ⊎_elim (λ (x : slice_index ranks q < slice_index ranks r). omega (arith, x, b))
+            (λ (x : (slice_index ranks q ≡ slice_index ranks r) × (q ≤ r)). x.1) a);
       };
     }
 

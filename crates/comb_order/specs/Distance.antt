@@ -1,5 +1,5 @@
 -- How far driven parts are from one of them, in reads. This project's own.
-use Rattle.std.specs.Prelude.{◌≡◌, ◌≢◌, ℕ, suc, ◌+◌, ◌<◌, ◌≤◌, min, List, length, slice_index, Option, Some, None, IsSomeAnd}
+use Rattle.std.specs.Prelude.{◌≡◌, ◌≢◌, ℕ, ◌+◌, ◌<◌, ◌≤◌, min, List, length, slice_index, Option, Some, None, IsSomeAnd}
 use Rattle.netlist.specs.Design.{Flat}
 use Rattle.netlist.specs.Graph.{ReadsPart, ReadsIn}
 use Rattle.comb_order.specs.declared.distance.TheConstants.{NEVER}

@@ -1,5 +1,5 @@
 -- Ranges of bits in order. This project's own.
-use Rattle.std.specs.Prelude.{◌≡◌, ℕ, ◌<◌, ◌≤◌, List, length, slice_index_or}
+use Rattle.std.specs.Prelude.{ℕ, ◌<◌, ◌≤◌, List, length, slice_index_or}
 use Rattle.netlist.specs.Fits.{IsBefore}
 use Rattle.netlist.specs.declared.design.Range.{Range}
 use Rattle.netlist.specs.declared.design.DrivenPart.{DrivenPart}

@@ -1,6 +1,6 @@
 //! The fewest reads in which each driven part comes to one of them.
 
-ghost use Rattle.std.specs.Prelude.{◌≡◌, ◌↔◌, ◌<◌, ◌≤◌, true, false, length, sum, IsTrue, IfOk};
+ghost use Rattle.std.specs.Prelude.{◌≡◌, ◌↔◌, ◌<◌, ◌≤◌, ◌^◌, true, false, length, sum, IsTrue, IfOk};
 ghost use Rattle.comb_order.specs.Distance as distance;
 
 use crate::guess;
@@ -84,13 +84,15 @@ fn are_supported(alloc: Global, flat: &Flat, ranks: &[u64], to: usize) -> Result
 // Ranks to begin with: those of a quick search, or NEVER but for the part `to`.
 fn first_ranks(alloc: Global, flat: &Flat, to: usize) -> Result<Vec<u64>, AllocError>
     requires { to < length flat.now.driven }
-    ensures { IfOk result (λ v. distance.AreSupported flat.now to v.items) }
+    ensures few { length flat.now.driven < 2 ^ 32 }
+    ensures supported { IfOk result (λ v. distance.AreSupported flat.now to v.items) }
 {
+    let count = flat.driven().len();
     let quick = guess::ranks(alloc, flat, to)?;
     if are_supported(alloc, flat, &quick, to)? {
         return Ok(quick);
     }
-    let mut ranks = vec![in alloc; NEVER; flat.driven().len()]?;
+    let mut ranks = vec![in alloc; NEVER; count]?;
     ranks[to] = 0;
     Ok(ranks)
 }
@@ -100,7 +102,6 @@ pub(crate) fn distances(alloc: Global, flat: &Flat, to: usize) -> Result<Vec<u64
     requires { to < length flat.now.driven }
     ensures { IfOk result (λ v. distance.AreDistances flat.now to v.items) }
 {
-    flat.driven();
     let mut ranks = first_ranks(alloc, flat, to)?;
     loop {
         if !shorten(alloc, flat, &mut ranks, to)? {

@@ -54,7 +54,12 @@ pub(crate) enum Direction {
 }
 
 // Adds an edge from what reads to what is read, or back.
-fn join(graph: &mut Graph, direction: Direction, reader: usize, read: usize) -> Result<(), AllocError> {
+fn join(
+    graph: &mut Graph,
+    direction: Direction,
+    reader: usize,
+    read: usize,
+) -> Result<(), AllocError> {
     match direction {
         Direction::Reads => graph.add(reader, read),
         Direction::Readers => graph.add(read, reader),
@@ -132,14 +137,23 @@ fn join_parts(graph: &mut Graph, direction: Direction, flat: &Flat) -> Result<()
     let nodes = flat.nodes().len();
     let driven = flat.driven();
     for number in 0..driven.len() {
-        join(graph, direction, nodes.saturating_add(number), driven[number].node as usize)?;
+        join(
+            graph,
+            direction,
+            nodes.saturating_add(number),
+            driven[number].node as usize,
+        )?;
     }
     Ok(())
 }
 
 impl Graph {
     /// The graph of a design, in the one direction or the other.
-    pub(crate) fn of(alloc: Global, flat: &Flat, direction: Direction) -> Result<Graph, AllocError> {
+    pub(crate) fn of(
+        alloc: Global,
+        flat: &Flat,
+        direction: Direction,
+    ) -> Result<Graph, AllocError> {
         let places = flat.nodes().len().saturating_add(flat.driven().len());
         let mut graph = Graph::empty(alloc, places)?;
         join_nodes(&mut graph, direction, flat)?;

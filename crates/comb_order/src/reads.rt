@@ -6,7 +6,6 @@ ghost use Rattle.netlist.specs.Fits.{IsBefore, IsWellFormed, DrivenInOrder};
 ghost use Rattle.comb_order.specs.First as first;
 ghost use Rattle.comb_order.specs.Ranges.{IsStart};
 
-
 use netlist::design::{DrivenPart, Range};
 use netlist::flat::Flat;
 use netlist::laws::reads_law;

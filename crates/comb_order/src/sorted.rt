@@ -21,11 +21,7 @@ fn all_parts(alloc: Global, flat: &Flat) -> Result<Vec<u32>, AllocError>
 }
 
 /// The driven parts, those of the higher label first.
-pub(crate) fn by_labels(
-    alloc: Global,
-    flat: &Flat,
-    ranks: &[u64],
-) -> Result<Vec<u32>, AllocError>
+pub(crate) fn by_labels(alloc: Global, flat: &Flat, ranks: &[u64]) -> Result<Vec<u32>, AllocError>
     requires { labels.AreRising flat.now ranks.now }
     ensures { IfOk result (λ v. IsOrder flat.now v.items) }
 {

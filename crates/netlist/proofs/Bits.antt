@@ -43,13 +43,13 @@ bit_below v k w b a i within l =
 -- those above: there is nothing from the width on
 pub bit_above : (v k w b a i : ℕ) → a < 2 ^ v → k + w ≤ i → bit_at (insert_at v k w b a) i ≡ bit_at a i
 bit_above v k w b a i fits l = elim (cases_lt i v) [
-      | inl inside ↦
-          let j : ℕ = i - (k + w) in
-          let place : (k + w) + j ≡ i = omega arith in
-          low_bit v (a / 2 ^ (k + w) * 2 ^ (k + w) + inner k w b a) i inside
-          ∙ bit_at_cat_high (a / 2 ^ (k + w)) (k + w) (inner k w b a) i (inner_fits k w b a) l
-          ∙ high_bit (k + w) a j ∙ ap (bit_at a) place
-      | inr beyond ↦
-          bit_at_above (insert_at v k w b a) v i
-          (mod-lt (a / 2 ^ (k + w) * 2 ^ (k + w) + inner k w b a) (pow_pos v)) beyond ∙ sym (bit_at_above a v i fits beyond)
-    ]
+  | inl inside ↦
+      let j : ℕ = i - (k + w) in
+      let place : (k + w) + j ≡ i = omega arith in
+      low_bit v (a / 2 ^ (k + w) * 2 ^ (k + w) + inner k w b a) i inside
+      ∙ bit_at_cat_high (a / 2 ^ (k + w)) (k + w) (inner k w b a) i (inner_fits k w b a) l
+      ∙ high_bit (k + w) a j ∙ ap (bit_at a) place
+  | inr beyond ↦
+      bit_at_above (insert_at v k w b a) v i
+      (mod-lt (a / 2 ^ (k + w) * 2 ^ (k + w) + inner k w b a) (pow_pos v)) beyond ∙ sym (bit_at_above a v i fits beyond)
+]

@@ -72,8 +72,8 @@ put_beside signals r n values s i fits z h =
           let p : Placed signals r = placed signals r fits in
           let there = put_there signals r n values p z in
           let moved : bit (put signals r n values) s i ≡ bit_at
-              (insert_at p.signal.width r.low r.width n (slice_index values r.signal)) i =
-              ap (λ k. bit (put signals r n values) k i) same ∙ ap (λ x. bit_at x i) there in
+          (insert_at p.signal.width r.low r.width n (slice_index values r.signal)) i =
+          ap (λ k. bit (put signals r n values) k i) same ∙ ap (λ x. bit_at x i) there in
           let back : bit values r.signal i ≡ bit values s i = ap (λ k. bit values k i) (sym same) in
           elim (cases_lt i r.low) [
             | inl below ↦ moved ∙ bit_below p.signal.width r.low r.width n (slice_index values r.signal) i p.within below
@@ -199,8 +199,8 @@ all_have signals value (p ∷ ps) v fits one steady z q s i among b =
     let next : List ℕ = put signals p.range (value p v) v in
     let next_sized : AreSized signals next = put_sized signals p.range (value p v) v (fits p (inl refl)) z in
     let rest : EachHas value ps (put_all signals value ps next) =
-        all_have signals value ps next (λ x h. fits x (inr h)) (λ x y t j h g. one x y t j (inr h) (inr g)) steady.1
-        next_sized in
+    all_have signals value ps next (λ x h. fits x (inr h)) (λ x y t j h g. one x y t j (inr h) (inr g)) steady.1
+    next_sized in
     elim (holder ps s i) [
       | inl h ↦ rest q s i (subst (λ x. In x ps) (one h.part q s i (inr h.among) among h.has b) h.among) b
       | inr none ↦ elim among [
@@ -230,7 +230,7 @@ ends_same signals value (p ∷ ps) u v fits steady z has agree s i =
       | inl own ↦ has p t j (inl refl) own ∙ ap (λ n. bit_at n (j - p.range.low)) (steady.0 u v agree)
           ∙ sym (put_in signals p.range (value p v) v t j (fits p (inl refl)) z own)
       | inr other ↦ agree t j (λ q among b. elim among [
-          | inl e ↦ other (subst (λ (x : DrivenPart). HasBit x.range t j) e b)
-          | inr h ↦ away q h b
-        ]) ∙ sym (put_beside signals p.range (value p v) v t j (fits p (inl refl)) z other)
+        | inl e ↦ other (subst (λ (x : DrivenPart). HasBit x.range t j) e b)
+        | inr h ↦ away q h b
+      ]) ∙ sym (put_beside signals p.range (value p v) v t j (fits p (inl refl)) z other)
     ]) s i

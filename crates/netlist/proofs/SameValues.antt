@@ -134,18 +134,18 @@ same_below : (f : Flat) → IsWellFormed f → (ps : List DrivenPart) (v u : Val
 same_below f w ps v u agree m zero n x l at none = absurd (omega arith)
 same_below f w ps v u agree m (suc b) n x l at none =
     let one : (p : DrivenPart) → reads f n p ≡ node_reads p.range (nodes_read p.range [] f.nodes) x =
-        λ p. (reads_law f p.range w).each n x at in
+    λ p. (reads_law f p.range w).each n x at in
     (values_law.are f v w).each n x at
     ∙ same_operation f v u (node_values f v) (node_values f u) x.width x.operation m
     (leaf_same f (take n f.nodes) ps v u x.width x.operation agree (node_fits f w n x at).1
     (λ p among h. none p among (one p ∙ rw h refl)))
     (λ a among.
-      let lower : a < n = below_from n a (operands x.operation) (operands_below n x.operation
-          (subst (λ k. Reads k x.operation) (zero_more n) (all_read f w n x at))) among in
-      let there : a < length f.nodes = omega (arith, slice_get_within f.nodes n x at) in
-      same_below f w ps v u agree m b a (get_or f.nodes a x) (omega arith) (slice_get-get_or f.nodes a x there)
-      (λ p h r. none p h (one p ∙ rw (reads_through (nodes_read p.range [] f.nodes) (operands x.operation) a among r)
-      (or_true (reads_bits p.range x.operation)))))
+    let lower : a < n = below_from n a (operands x.operation) (operands_below n x.operation
+    (subst (λ k. Reads k x.operation) (zero_more n) (all_read f w n x at))) among in
+    let there : a < length f.nodes = omega (arith, slice_get_within f.nodes n x at) in
+    same_below f w ps v u agree m b a (get_or f.nodes a x) (omega arith) (slice_get-get_or f.nodes a x there)
+    (λ p h r. none p h (one p ∙ rw (reads_through (nodes_read p.range [] f.nodes) (operands x.operation) a among r)
+    (or_true (reads_bits p.range x.operation)))))
     ∙ sym ((values_law.are f u w).each n x at)
 
 pub same_value : (f : Flat) → IsWellFormed f → (ps : List DrivenPart) (v u : Values)

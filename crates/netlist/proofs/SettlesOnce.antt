@@ -136,17 +136,17 @@ steady_more : (f : Flat) → IsWellFormed f → (m : List (List ℕ)) (k : ℕ) 
 steady_more f w m k ks back None e rest = rest
 steady_more f w m k ks back (Some p) e rest = (
   λ u v agree.
-    let fits : DrivenFits f.signals f.nodes p = all_in (DrivenFits f.signals f.nodes) f.driven w.parts.driven p (in_from p f.driven k e) in
-    let x = some_with (slice_get f.nodes p.node) (λ (y : Node). y.width ≡ p.range.width) fits.1 in
-    same_value f w (p ∷ chosen f ks) (record { signals = u; memories = m }) (record { signals = v; memories = m })
-    agree refl p.node x.0 x.1
-    (λ q among r. elim among [
-      | inl own ↦ (let no : 0 < 0 = back 0 0 (omega arith) (omega arith)
-          (reads_part f k k p q e (e ∙ ap Some (sym own)) r) in omega (arith, no))
-      | inr later ↦ (let c = chosen_at f q ks later in
-          let no : suc c.at < 0 = back 0 (suc c.at) (omega arith) (omega (arith, c.within))
-          (reads_part f k (slice_index ks c.at) p q e c.is r) in omega (arith, no))
-    ]),
+      let fits : DrivenFits f.signals f.nodes p = all_in (DrivenFits f.signals f.nodes) f.driven w.parts.driven p (in_from p f.driven k e) in
+      let x = some_with (slice_get f.nodes p.node) (λ (y : Node). y.width ≡ p.range.width) fits.1 in
+      same_value f w (p ∷ chosen f ks) (record { signals = u; memories = m }) (record { signals = v; memories = m })
+      agree refl p.node x.0 x.1
+      (λ q among r. elim among [
+        | inl own ↦ (let no : 0 < 0 = back 0 0 (omega arith) (omega arith)
+            (reads_part f k k p q e (e ∙ ap Some (sym own)) r) in omega (arith, no))
+        | inr later ↦ (let c = chosen_at f q ks later in
+            let no : suc c.at < 0 = back 0 (suc c.at) (omega arith) (omega (arith, c.within))
+            (reads_part f k (slice_index ks c.at) p q e c.is r) in omega (arith, no))
+      ]),
   rest,
 )
 
@@ -181,14 +181,14 @@ given_sized f w s row =
     (record {
       count = length-map f.signals (λ x. role_value row x.kept x.role);
       inner = λ k x at inner.
-        let there : k < length f.signals = slice_get_within f.signals k x at in
-        let fits : SignalFits (length f.scopes) f.inputs k x =
-        subst (λ y. SignalFits (length f.scopes) f.inputs k y) (get_or_from_slice_get f.signals k x x at)
-        (w.signals.each k x there) in
-        let value = get_or-map (λ y. role_value row y.kept y.role) f.signals k x 0 there
-        ∙ ap (λ (y : Signal). role_value row y.kept y.role) (get_or_from_slice_get f.signals k x x at)
-        ∙ ap (λ r. role_value row x.kept r) inner in
-        subst (λ n. n < 2 ^ x.width) (sym value) fits.3;
+          let there : k < length f.signals = slice_get_within f.signals k x at in
+          let fits : SignalFits (length f.scopes) f.inputs k x =
+          subst (λ y. SignalFits (length f.scopes) f.inputs k y) (get_or_from_slice_get f.signals k x x at)
+          (w.signals.each k x there) in
+          let value = get_or-map (λ y. role_value row y.kept y.role) f.signals k x 0 there
+          ∙ ap (λ (y : Signal). role_value row y.kept y.role) (get_or_from_slice_get f.signals k x x at)
+          ∙ ap (λ r. role_value row x.kept r) inner in
+          subst (λ n. n < 2 ^ x.width) (sym value) fits.3;
     })
 
 -- ---- both halves
@@ -293,11 +293,11 @@ settles_once f order s row w o =
       settles = subst (λ v. FlatSettles f s row v) (sym is)
           (ap (λ (v : List ℕ). record { signals = v; memories = m }) (settled f order m base known));
       alone = λ u h.
-        let words : u.memories ≡ m = ap (λ (v : Values). v.memories) h in
-        let own : u.signals ≡ put_driven f.signals f.driven (node_values f (record { signals = u.signals; memories = m }))
-            base = ap (λ (v : Values). v.signals) h
-            ∙ ap (λ x. put_driven f.signals f.driven (node_values f (record { signals = u.signals; memories = x })) base)
-            words in
-        ap (λ x. record { signals = u.signals; memories = x }) words
-        ∙ ap (λ (v : List ℕ). record { signals = v; memories = m }) (alone f order m base u.signals known own) ∙ sym is;
+          let words : u.memories ≡ m = ap (λ (v : Values). v.memories) h in
+          let own : u.signals ≡ put_driven f.signals f.driven (node_values f (record { signals = u.signals; memories = m }))
+          base = ap (λ (v : Values). v.signals) h
+          ∙ ap (λ x. put_driven f.signals f.driven (node_values f (record { signals = u.signals; memories = x })) base)
+          words in
+          ap (λ x. record { signals = u.signals; memories = x }) words
+          ∙ ap (λ (v : List ℕ). record { signals = v; memories = m }) (alone f order m base u.signals known own) ∙ sym is;
     }

@@ -10,5 +10,5 @@ returns-then-not-branch c =
     omega (arith, c.shorten.auto.ranks, c.deref_mut.ensures.len) in
     subst (λ (r : List ℕ). AreDistances c.args.flat.now c.args.to r)
     (sym (with_items_is c.loop-ranks.ranks c.shorten.new.ranks long))
-    (are_distances c.args.flat.now c.args.to c.shorten.new.ranks c.driven.ensures.fits.numbered.driven
+    (are_distances c.args.flat.now c.args.to c.shorten.new.ranks c.in_ok-ranks.ensures.few
     c.in_ok-shorten.ensures.supported (c.in_ok-shorten.ensures.settled (search rules)))

@@ -1,5 +1,5 @@
 use Rattle.std.proofs.Common.{◌≡◌, ◌≢◌, ℕ, ◌+◌, ◌<◌, ◌≤◌, true, false, List, get_or, length, sym, ap, subst, ◌∙◌, arith}
-use Rattle.std.specs.Prelude.{Option, None, slice_set, sum, Bool}
+use Rattle.std.specs.Prelude.{Option, None, slice_set, sum}
 use Rattle.std.proofs.lemmas.List.{get_or_read}
 use Rattle.comb_order.specs.Distance.{AreSupported, one_read_more}
 use Rattle.comb_order.proofs.Distances.{still_supported, sum_less, settled_so_far}

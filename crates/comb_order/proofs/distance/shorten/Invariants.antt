@@ -1,4 +1,4 @@
-use Rattle.std.proofs.Common.{◌≡◌, ◌≢◌, ℕ, ◌<◌, ◌≤◌, true, false, length, get_or}
+use Rattle.std.proofs.Common.{◌≡◌, ◌≢◌, ℕ, ◌<◌, ◌≤◌, true, false, get_or}
 use Rattle.std.specs.Prelude.{None, sum}
 use Rattle.comb_order.specs.Distance.{AreSupported, one_read_more}
 use Rattle.comb_order.proofs.distance.shorten.Given as goal

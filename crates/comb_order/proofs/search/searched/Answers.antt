@@ -1,7 +1,7 @@
 use Rattle.std.proofs.Common.{◌≡◌, ◌+◌, ◌<◌, ◌∙◌, ℕ, List, length, get_or, true, false, sym, ap, subst, arith}
 use Rattle.std.specs.Prelude.{Option, None}
 use Rattle.std.proofs.lemmas.List.{with_items_is}
-use Rattle.comb_order.specs.Distance.{AreDistances, ComesBack}
+use Rattle.comb_order.specs.Distance.{ComesBack}
 use Rattle.comb_order.specs.First.{AreFirst}
 use Rattle.comb_order.specs.Labels.{RiseBelow, AreRising}
 use Rattle.comb_order.proofs.Rises.{comes_as, rise_more_of, least_more, loop_is, rising}
