@@ -48,7 +48,8 @@ first_of ranks (Some a) (Some b) = Some (if comes_first ranks a b then a else b)
 -- the first of a given one and of what these nodes read first
 abbrev pub first_among : List ℕ → List (Option ℕ) → Option ℕ → List ℕ → Option ℕ
 first_among ranks firsts best [] = best
-first_among ranks firsts best (a ∷ as') = first_among ranks firsts (first_of ranks best (slice_index_or firsts a None)) as'
+first_among ranks firsts best (a ∷ as') =
+    first_among ranks firsts (first_of ranks best (slice_index_or firsts a None)) as'
 
 -- the operation reads a bit of the driven part of this number itself
 abbrev pub Touches : List DrivenPart → Operation → ℕ → Type 0

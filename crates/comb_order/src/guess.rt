@@ -7,8 +7,8 @@ use netlist::flat::Flat;
 use std::alloc::{AllocError, Global};
 use std::mem::swap;
 
-// A search in depth: the edge at which each place stands, its tree, from 1 on (0: not reached), the places below the one
-// at hand, and those that are done.
+// A search in depth: the edge at which each place stands, its tree, from 1 on (0: not reached), the places on the way
+// to the one at hand, and those that are done.
 #[derive(Drop)]
 struct Depth {
     at: Vec<usize>,

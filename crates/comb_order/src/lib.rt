@@ -46,8 +46,8 @@ fn decided(alloc: Global, flat: &Flat) -> Result<Found, AllocError>
 
 /// An order of the design's driven parts.
 ///
-/// `Loop`: some driven part reads itself, directly or through others; its list begins with the least such part, and each
-/// next one is the part that the one before it reads with the fewest reads back to the first, ties to the least number.
+/// `Loop`: some driven part reads itself, directly or through others. Its list begins with the least such part; each
+/// next one is the part that the one before it reads with the fewest reads back to the first, and of those the least.
 /// `Memory`: out of memory.
 pub fn order(alloc: Global, flat: &Flat) -> Result<Order, OrderFault>
     ensures order { IfOk result (λ o. IsOrder flat.now o) }

@@ -37,8 +37,8 @@ fn never_falls(labels: &[u64], first: Option<u32>, part: u32) -> bool
 fn first_level(labels: &[u64], firsts: &[Option<u32>]) -> Option<u32>
     requires { length firsts.now < 2 ^ 32 }
     ensures { MatchOption result
-        ((p : ℕ) → p < length firsts.now → rise.StepsUp labels.now (slice_index_or firsts.now p None) p)
-        (λ s. (s < length firsts.now) × ((p : ℕ) → p < s → rise.StepsUp labels.now (slice_index_or firsts.now p None) p)) }
+        (rise.StepUpBelow labels.now firsts.now (length firsts.now))
+        (λ s. (s < length firsts.now) × rise.StepUpBelow labels.now firsts.now s) }
 {
     for part in 0..firsts.len() {
         if !steps_up(labels, firsts[part], part as u32) {
@@ -51,8 +51,7 @@ fn first_level(labels: &[u64], firsts: &[Option<u32>]) -> Option<u32>
 // Whether no part falls.
 fn none_falls(labels: &[u64], firsts: &[Option<u32>]) -> bool
     requires { length firsts.now < 2 ^ 32 }
-    ensures { IsTrue result
-        → (p : ℕ) → p < length firsts.now → rise.NeverFalls labels.now (slice_index_or firsts.now p None) p }
+    ensures { IsTrue result → rise.NoneFallsBelow labels.now firsts.now (length firsts.now) }
 {
     for part in 0..firsts.len() {
         if !never_falls(labels, firsts[part], part as u32) {

@@ -28,8 +28,7 @@ fn raised(label: u64, ranks: &[u64], first: Option<u32>) -> u64
 fn raise(labels: &mut [u64], ranks: &[u64], firsts: &[Option<u32>])
     requires count { length firsts.now ≡ length labels.old }
     requires few { (p : ℕ) → slice_index labels.old p < 2 ^ 32 }
-    ensures { (p : ℕ) → p < length labels.old
-        → rise.Raised ranks.now (slice_index_or firsts.now p None) (slice_index labels.old p) (slice_index labels.new p) }
+    ensures { rise.AreRaised ranks.now firsts.now labels.old labels.new }
 {
     for part in 0..labels.len() {
         labels[part] = raised(labels[part], ranks, firsts[part]);

@@ -136,7 +136,8 @@ steady_more : (f : Flat) → IsWellFormed f → (m : List (List ℕ)) (k : ℕ) 
 steady_more f w m k ks back None e rest = rest
 steady_more f w m k ks back (Some p) e rest = (
   λ u v agree.
-      let fits : DrivenFits f.signals f.nodes p = all_in (DrivenFits f.signals f.nodes) f.driven w.parts.driven p (in_from p f.driven k e) in
+      let fits : DrivenFits f.signals f.nodes p =
+      all_in (DrivenFits f.signals f.nodes) f.driven w.parts.driven p (in_from p f.driven k e) in
       let x = some_with (slice_get f.nodes p.node) (λ (y : Node). y.width ≡ p.range.width) fits.1 in
       same_value f w (p ∷ chosen f ks) (record { signals = u; memories = m }) (record { signals = v; memories = m })
       agree refl p.node x.0 x.1

@@ -43,7 +43,8 @@ pub record AreReads (f : Flat) (q : Range) (rs : List Bool) : Type 0 where
   pub count : length rs ≡ length f.nodes
   pub each : (k : ℕ) (x : Node) → slice_get f.nodes k ≡ Some x → slice_index_or rs k false ≡ node_reads q rs x
 
--- A law: a node of a well-formed design reads bits of a range exactly where its operation does, or a node that it reads.
+-- A law: a node of a well-formed design reads bits of a range exactly where its operation does, or a node that it
+-- reads.
 abbrev pub ReadsLaw : Type 0
 ReadsLaw = (f : Flat) (q : Range) → IsWellFormed f → AreReads f q (nodes_read q [] f.nodes)
 

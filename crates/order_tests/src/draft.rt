@@ -43,7 +43,7 @@ pub fn add_signal(alloc: Global, draft: &mut FlatDraft, width: u32) -> Result<()
 
 // One more node.
 fn add_node(draft: &mut FlatDraft, width: u32, operation: Operation) -> Result<u32, Fail> {
-    let number = draft.nodes.len() as u32;
+    let number = u32::try_from(draft.nodes.len()).unwrap_or(u32::MAX);
     draft.nodes.push(Node { width, operation })?;
     Ok(number)
 }

@@ -191,8 +191,8 @@ fn small_designs_have_their_loops(rt: HostRuntime) -> Result<(), Fail> {
     Ok(())
 }
 
-// A chain of parts of one bit, 100 to a signal: each reads the one before it, and the first one, if the chain is closed,
-// the last.
+// A chain of parts of one bit, 100 to a signal: each reads the one before it, and the first one, if the chain is
+// closed, the last.
 fn chain(alloc: Global, signals: u32, closed: bool) -> Result<FlatDraft, Fail> {
     let mut draft = empty(alloc)?;
     let mut before = range((signals.saturating_sub(1), 99, 1));

@@ -19,7 +19,8 @@ loop-part-preserved c =
     let long : i < length firsts = omega (arith, within, c.in_ok-firsts.ensures.count) in
     let there : i < length old = omega (arith, c.loop-part-test.true, c.loop-part.auto.ranks) in
     let is : through ≡ one_read_more old (get_or firsts i None) =
-    c.one_read_more-through.ensures ∙ ap (one_read_more old) (get_or_read firsts i c.index.result.now long c.index.ensures None) in
+    c.one_read_more-through.ensures
+    ∙ ap (one_read_more old) (get_or_read firsts i c.index.result.now long c.index.ensures None) in
     elim c.if-part-to.branch [
       | then-part-to+then-through-ranks w ↦
           let set : List ℕ = slice_set old i through in
