@@ -1,10 +1,8 @@
 -- What is computed of one node after another, whether it reads bits of a range, is what the graph says of each.
-use Rattle.std.proofs.Common.{◌≡◌, ℕ, zero, suc, ◌+◌, ◌<◌, ◌||◌, Bool, true, false, List, [], ◌∷◌, ◌++◌, length, refl, sym, ap, ◌∙◌, subst, arith, append_assoc}
+use Rattle.std.proofs.Common.{◌≡◌, ℕ, zero, suc, ◌+◌, ◌<◌, ◌||◌, Bool, false, List, [], ◌∷◌, ◌++◌, length, refl, sym, ap, ◌∙◌, subst, arith, append_assoc}
 use Rattle.std.specs.Prelude.{slice_get, slice_index, slice_index_or, Some}
 use Rattle.std.proofs.Math.Seq.{get_or-append_seam}
 use Rattle.std.proofs.lemmas.List.{get_or_append_left, length_push, append-nil}
-use Rattle.netlist.specs.Design.{Flat}
-use Rattle.netlist.specs.Fits.{IsWellFormed}
 use Rattle.netlist.specs.Graph.{operands, some_reads, node_reads, nodes_read, reads_bits}
 use Rattle.netlist.specs.Laws.{ReadsLaw, OperandsLaw}
 use Rattle.netlist.specs.declared.design.Range.{Range}

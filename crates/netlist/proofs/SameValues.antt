@@ -1,21 +1,19 @@
 -- A node has the same value over two valuations that agree at the bits that it reads.
-use Rattle.std.proofs.Common.{◌≡◌, ℕ, zero, suc, ◌+◌, ◌-◌, ◌/◌, ◌%◌, ◌^◌, ◌<◌, ◌≤◌, ◌||◌, inl, inr, Bool, true, false, List, [], ◌∷◌, length, get_or, refl, sym, ap, ◌∙◌, subst, arith, take}
-use Rattle.std.specs.Prelude.{Option, None, Some, pos, slice_get, slice_index, slice_index_or, nat_lt, ◌&&◌, ◌==◌}
+use Rattle.std.proofs.Common.{◌≡◌, ℕ, zero, suc, ◌+◌, ◌/◌, ◌%◌, ◌^◌, ◌<◌, ◌||◌, inl, inr, Bool, true, false, List, [], ◌∷◌, length, get_or, refl, sym, ap, ◌∙◌, subst, arith, take}
+use Rattle.std.specs.Prelude.{Some, pos, slice_get, slice_index, slice_index_or}
 use Rattle.std.specs.Int.{bit_at}
 use Rattle.std.proofs.Math.Nat.{mod-lt}
 use Rattle.std.proofs.lemmas.Bool.{cases_lt}
 use Rattle.std.proofs.lemmas.Bool.Decides.{nat_tests}
 use Rattle.std.proofs.lemmas.Nat.{pow_pos}
 use Rattle.std.proofs.lemmas.Nat.Bits.{bit_at_above, same_from_bits}
-use Rattle.std.proofs.lemmas.List.{length-take-le}
 use Rattle.std.proofs.lemmas.Option.{slice_get_within, slice_get-get_or, get_or_from_slice_get}
-use Rattle.std.proofs.lemmas.Grind.{common_steps}
 use Rattle.bit_ops.specs.Operators as ops
 use Rattle.netlist.specs.Design.{Flat}
 use Rattle.netlist.specs.Fits.{IsWellFormed, OperationFits, NodeFits}
 use Rattle.netlist.specs.Graph.{operands, overlap, some_reads, reads, reads_bits, node_reads, nodes_read}
-use Rattle.netlist.specs.Laws.{HasBit, AreReads}
-use Rattle.netlist.specs.Values.{Values, operation_value, node_value, node_values}
+use Rattle.netlist.specs.Laws.{HasBit}
+use Rattle.netlist.specs.Values.{Values, operation_value, node_values}
 use Rattle.netlist.specs.declared.design.Range.{Range}
 use Rattle.netlist.specs.declared.design.DrivenPart.{DrivenPart}
 use Rattle.netlist.specs.declared.node.Node.{Node}
@@ -24,7 +22,7 @@ use Rattle.netlist.specs.declared.node.Operation.TheVariants as o
 use Rattle.netlist.proofs.Bits.{low_bit, high_bit}
 use Rattle.netlist.proofs.ValuesLaw.{Reads, all_read, values_law}
 use Rattle.netlist.proofs.ReadsLaw.{AreBelow, operands_below, zero_more, reads_law}
-use Rattle.netlist.proofs.Puts.{bit, In, InNone, AgreeBeside}
+use Rattle.netlist.proofs.Puts.{In, AgreeBeside}
 
 -- ---- bits that are read
 

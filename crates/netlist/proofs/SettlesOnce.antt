@@ -1,27 +1,25 @@
 -- One valuation settles: that of an order.
-use Rattle.std.proofs.Common.{◌≡◌, ℕ, zero, suc, ◌+◌, ◌-◌, ◌^◌, ◌<◌, ◌≤◌, inl, inr, List, [], ◌∷◌, length, map, drop, get_or, refl, sym, ap, ◌∙◌, subst, arith, true}
-use Rattle.std.specs.Prelude.{Option, None, Some, slice_get, slice_index, slice_index_or, IsSomeAnd}
+use Rattle.std.proofs.Common.{◌≡◌, ℕ, zero, suc, ◌^◌, ◌<◌, inl, inr, List, [], ◌∷◌, length, map, drop, get_or, refl, sym, ap, ◌∙◌, subst, arith, true}
+use Rattle.std.specs.Prelude.{Option, None, Some, slice_get, slice_index, IsSomeAnd}
 use Rattle.std.specs.List.{All}
-use Rattle.std.specs.Int.{bit_at}
 use Rattle.std.proofs.lemmas.Nat.Bits.{same_from_bits}
 use Rattle.std.proofs.lemmas.List.{ext_get_or, get_or-map, length-map}
 use Rattle.std.proofs.lemmas.List.Elements.{All-get_or}
 use Rattle.std.proofs.lemmas.Option.{slice_get_within, get_or_from_slice_get}
 use Rattle.netlist.specs.Design.{Flat}
-use Rattle.netlist.specs.Fits.{IsWellFormed, DrivenFits, RegisterFits, PlaceFits, SignalFits, HasNode}
+use Rattle.netlist.specs.Fits.{IsWellFormed, DrivenFits, RegisterFits, PlaceFits, SignalFits}
 use Rattle.netlist.specs.Graph.{ReadsPart, reads}
-use Rattle.netlist.specs.Laws.{HasBit, SettlesAlone, SettlesOnce}
+use Rattle.netlist.specs.Laws.{HasBit, SettlesOnce}
 use Rattle.netlist.specs.Order.{IsOrder, drive, driven_in, flat_val}
-use Rattle.netlist.specs.Run.{State, FlatSettles, put, put_registers, put_driven, given, all_words, role_value, redriven}
+use Rattle.netlist.specs.Run.{State, FlatSettles, put, put_registers, put_driven, given, all_words, role_value}
 use Rattle.netlist.specs.Values.{Values, node_values}
-use Rattle.netlist.specs.declared.design.Role.TheVariants as role
 use Rattle.netlist.specs.declared.design.Signal.{Signal}
 use Rattle.netlist.specs.declared.design.DrivenPart.{DrivenPart}
 use Rattle.netlist.specs.declared.design.RegisterPart.{RegisterPart}
 use Rattle.netlist.specs.declared.node.Node.{Node}
 use Rattle.netlist.proofs.PartsLaw.{parts_law}
 use Rattle.netlist.proofs.SameValues.{same_value}
-use Rattle.netlist.proofs.Puts.{bit, AreSized, some_with, put_sized, In, put_all, AllPlaced, InNone, all_sized, all_beside, LieInOne, AgreeBeside, AreSteady, EachHas, all_have, ends_same}
+use Rattle.netlist.proofs.Puts.{bit, AreSized, some_with, put_sized, In, put_all, AllPlaced, all_sized, all_beside, LieInOne, AreSteady, EachHas, all_have, ends_same}
 
 -- ---- elements of a list
 
