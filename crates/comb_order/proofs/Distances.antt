@@ -36,7 +36,7 @@ reader_there f p q h = reader_first f p q (slice_get f.driven p) refl h
 
 -- ---- all numbers up to one of a list are fewer than its elements
 
-abbrev Has : ℕ → List ℕ → Type 0
+abbrev pub Has : ℕ → List ℕ → Type 0
 Has v [] = ⊥
 Has v (x ∷ xs) = (v ≡ x) ⊎ Has v xs
 
@@ -68,7 +68,7 @@ fewer (suc k) xs h =
     let less : k < length w.rest = fewer k w.rest (λ v l. w.keeps v (omega (arith, l)) (h v (omega (arith, l)))) in
     omega (arith, less, w.count)
 
-has_at : (xs : List ℕ) (k : ℕ) → k < length xs → Has (slice_index xs k) xs
+pub has_at : (xs : List ℕ) (k : ℕ) → k < length xs → Has (slice_index xs k) xs
 has_at [] k l = absurd (omega arith)
 has_at (x ∷ xs) zero l = inl refl
 has_at (x ∷ xs) (suc k) l = inr (has_at xs k (omega arith))

@@ -7,3 +7,4 @@ pub mod ByLabels
 pub mod Rises
 pub mod Exclusion
 pub mod Quickly
+pub mod Exists

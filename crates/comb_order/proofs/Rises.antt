@@ -14,7 +14,7 @@ use Rattle.comb_order.specs.declared.distance.TheConstants.{NEVER}
 use Rattle.comb_order.proofs.Distances.{read_there, reader_there}
 use Rattle.comb_order.proofs.Rounds.{goes_first}
 
-back_cases : (ranks : List ℕ) (q : Option ℕ) → ComesBack ranks q ⊎ (ComesBack ranks q → ⊥)
+pub back_cases : (ranks : List ℕ) (q : Option ℕ) → ComesBack ranks q ⊎ (ComesBack ranks q → ⊥)
 back_cases ranks None = inr (λ h. h)
 back_cases ranks (Some q) = elim (cases_lt (slice_index ranks q) NEVER) [
   | inl low ↦ inl low

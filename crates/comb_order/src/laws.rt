@@ -6,3 +6,8 @@ ghost use Rattle.comb_order.specs.Laws as laws;
 pub fn exclusion_law()
     ensures { laws.ExclusionLaw }
 {}
+
+/// A well-formed design has an order or a loop.
+pub fn existence_law()
+    ensures { laws.ExistenceLaw }
+{}

@@ -4,7 +4,7 @@
 //! Promise: `order` gives a list with all driven parts, each after those that it reads (`IsOrder` of
 //! `netlist/specs/Order`), or the loop (`IsLoop` there): then there is no order. A part reads a part where bits of the
 //! one reach bits of the other in the graph of nodes, so a vector may depend on itself, part by part. `laws` says that
-//! no design has both.
+//! each design has an order or a loop, and none both.
 //! How: a quick search makes labels and distances that nothing rests on; a pass over the nodes, which says what each
 //! part reads first, then judges them, and only where they are refused a slow search takes their place.
 //! Not said: how long a call takes; that memory is enough.
