@@ -8,3 +8,4 @@ pub mod Rises
 pub mod Exclusion
 pub mod Quickly
 pub mod Exists
+mod Examples
