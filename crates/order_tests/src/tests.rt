@@ -20,11 +20,13 @@ struct Design {
 
 // Designs with one order each.
 static ORDERS: [Design; 5] = [
+    // no driven part
     Design {
         widths: &[1],
         parts: &[],
         answer: &[],
     },
+    // a carry that goes up through a vector
     Design {
         widths: &[3],
         parts: &[
@@ -34,6 +36,7 @@ static ORDERS: [Design; 5] = [
         ],
         answer: &[0, 1, 2],
     },
+    // one that goes down
     Design {
         widths: &[3],
         parts: &[
@@ -43,6 +46,7 @@ static ORDERS: [Design; 5] = [
         ],
         answer: &[2, 1, 0],
     },
+    // halves of two vectors
     Design {
         widths: &[8, 8],
         parts: &[
@@ -53,6 +57,7 @@ static ORDERS: [Design; 5] = [
         ],
         answer: &[1, 3, 0, 2],
     },
+    // bits that no part drives are read beside a part
     Design {
         widths: &[4, 4],
         parts: &[((0, 0, 1), &[(1, 0, 4)]), ((1, 1, 2), &[(0, 1, 3)])],
@@ -62,16 +67,19 @@ static ORDERS: [Design; 5] = [
 
 // Designs with a loop each.
 static LOOPS: [Design; 8] = [
+    // two nets that drive each other
     Design {
         widths: &[1, 1],
         parts: &[((0, 0, 1), &[(1, 0, 1)]), ((1, 0, 1), &[(0, 0, 1)])],
         answer: &[0, 1],
     },
+    // a whole vector that reads a bit of itself
     Design {
         widths: &[4],
         parts: &[((0, 0, 4), &[(0, 2, 1)])],
         answer: &[0],
     },
+    // two ways back of one length: the least next part
     Design {
         widths: &[3],
         parts: &[
@@ -81,6 +89,7 @@ static LOOPS: [Design; 8] = [
         ],
         answer: &[0, 1],
     },
+    // the least part that reads itself isn't the least part
     Design {
         widths: &[3],
         parts: &[
@@ -90,6 +99,7 @@ static LOOPS: [Design; 8] = [
         ],
         answer: &[1, 2],
     },
+    // the shorter way back, by the higher number
     Design {
         widths: &[4],
         parts: &[
@@ -100,6 +110,7 @@ static LOOPS: [Design; 8] = [
         ],
         answer: &[0, 2],
     },
+    // two loops: the one with the least part
     Design {
         widths: &[4],
         parts: &[
@@ -110,6 +121,7 @@ static LOOPS: [Design; 8] = [
         ],
         answer: &[1],
     },
+    // a part that a loop reads and that reads a loop is in none
     Design {
         widths: &[5],
         parts: &[
@@ -121,6 +133,7 @@ static LOOPS: [Design; 8] = [
         ],
         answer: &[1, 2],
     },
+    // the shorter way back, over two parts
     Design {
         widths: &[6],
         parts: &[
