@@ -4,21 +4,21 @@ use Rattle.netlist.specs.Design.{Flat}
 use Rattle.netlist.specs.Graph.{ReadsPart, ReadsIn}
 use Rattle.comb_order.specs.declared.distance.TheConstants.{NEVER}
 
--- the fewest reads in which each part comes to the part `to`; NEVER where it doesn't
+-- the fewest reads in which each part comes to the part `to`; not below NEVER where it doesn't
 pub record AreDistances (f : Flat) (to : ℕ) (ranks : List ℕ) : Type 0 where
   pub count : length ranks ≡ length f.driven
   pub back : (p : ℕ) → p < length f.driven → slice_index ranks p < NEVER → ReadsIn f (slice_index ranks p) p to
   pub fewest : (p n : ℕ) → p < length f.driven → ReadsIn f n p to → slice_index ranks p ≤ n
   pub ever : (p n : ℕ) → p < length f.driven → ReadsIn f n p to → slice_index ranks p < NEVER
 
--- each other rank below NEVER is more than that of some part that the part reads
+-- the rank of the part `to` is 0; the rank of each other part, below NEVER, is more than that of some part that it reads
 pub record AreSupported (f : Flat) (to : ℕ) (ranks : List ℕ) : Type 0 where
   pub count : length ranks ≡ length f.driven
   pub start : slice_index ranks to ≡ 0
   pub each : (p : ℕ) → p < length f.driven → p ≢ to → slice_index ranks p < NEVER
       → (q : ℕ) × ReadsPart f p q × (slice_index ranks q < slice_index ranks p)
 
--- each other rank is at most one more than that of each part that the part reads
+-- the rank of each part but `to` is at most one more than that of each part that it reads
 abbrev pub AreSettled : Flat → ℕ → List ℕ → Type 0
 AreSettled f to ranks = (p q : ℕ) → p < length f.driven → p ≢ to → ReadsPart f p q
     → slice_index ranks p ≤ slice_index ranks q + 1
@@ -28,7 +28,7 @@ abbrev pub one_read_more : List ℕ → Option ℕ → ℕ
 one_read_more ranks None = NEVER
 one_read_more ranks (Some q) = min (slice_index ranks q + 1) NEVER
 
--- the part that was read first, if there is one, comes to the part `to`
+-- there is a part that was read first, and its rank, which counts reads to some part, is below NEVER
 abbrev pub ComesBack : List ℕ → Option ℕ → Type 0
 ComesBack ranks None = ⊥
 ComesBack ranks (Some q) = slice_index ranks q < NEVER

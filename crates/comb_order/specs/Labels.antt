@@ -9,7 +9,7 @@ pub record AreRising (f : Flat) (labels : List ℕ) : Type 0 where
   pub count : length labels ≡ length f.driven
   pub each : (p q : ℕ) → ReadsPart f p q → slice_index labels p < slice_index labels q
 
--- a part that is read has no lower label, and the higher one where it has a number below n
+-- labels are n at most; a part that is read has no lower label, and the higher one where it has a number below n
 pub record RiseBelow (f : Flat) (n : ℕ) (labels : List ℕ) : Type 0 where
   pub count : length labels ≡ length f.driven
   pub few : (p : ℕ) → slice_index labels p ≤ n
@@ -25,11 +25,12 @@ abbrev pub AreRaised : List ℕ → List (Option ℕ) → List ℕ → List ℕ 
 AreRaised ranks firsts old new = (p : ℕ) → p < length old
     → Raised ranks (slice_index_or firsts p None) (slice_index old p) (slice_index new p)
 
--- a part's label is lower than that of what it reads first, or no higher
+-- a part's label is lower than that of what it reads first
 abbrev pub StepsUp : List ℕ → Option ℕ → ℕ → Type 0
 StepsUp labels None p = Unit {0}
 StepsUp labels (Some q) p = slice_index labels p < slice_index labels q
 
+-- a part's label is no higher than that of what it reads first
 abbrev pub NeverFalls : List ℕ → Option ℕ → ℕ → Type 0
 NeverFalls labels None p = Unit {0}
 NeverFalls labels (Some q) p = slice_index labels p ≤ slice_index labels q

@@ -5,7 +5,8 @@ use Rattle.netlist.specs.Design.{Flat}
 use Rattle.netlist.specs.Graph.{ReadsIn}
 use Rattle.netlist.specs.Order.{IsNearest}
 
--- a list of parts that begins with the part `start`; each next one, the first behind the last, is the nearest to it
+-- A list of parts that begins with the part `start`. Each next one, and `start` after the last, is the nearest to `start` of those that
+-- the one before it reads.
 pub record IsRound (f : Flat) (start : ℕ) (parts : List ℕ) : Type 0 where
   pub some : 0 < length parts
   pub first : slice_index parts 0 ≡ start
