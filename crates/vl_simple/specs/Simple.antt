@@ -1,5 +1,5 @@
--- A statement from after its first token on, and the rules of statements that hold no other (IEEE 1364-2005, A.6.2, 17.1, 17.2, 17.4), as the
--- readers read them, a part at a time. This project's own.
+-- A statement from after its first token on, and the rules of statements that hold no other (IEEE 1364-2005, A.6.2, 17.1, 17.2, 17.4), as
+-- the readers read them, a part at a time. This project's own.
 use Rattle.std.specs.Prelude.{ℕ, ◌≡◌, ◌≤◌, Bool, List, [], ◌∷◌, ◌++◌, Option, Some, None, Result}
 use Rattle.dt_core.specs.declared.place.Place as place_code
 use Rattle.vl_tree.specs.declared.token.Mark.TheVariants as m
