@@ -1,0 +1,4 @@
+//! The whole stimulus.
+#![tactic(auto)]
+
+pub mod refusal;
