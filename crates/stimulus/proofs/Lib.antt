@@ -1,1 +1,4 @@
+pub mod LineLaws
+pub mod DigitLaws
+pub mod ValueLaws
 mod StimulusExamples

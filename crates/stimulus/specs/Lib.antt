@@ -1,1 +1,3 @@
 pub mod Stimulus
+pub mod Lines
+pub mod Calls

@@ -1,4 +1,5 @@
 //! The whole stimulus.
 #![tactic(auto)]
 
+mod digits;
 pub mod refusal;
