@@ -1,4 +1,5 @@
 pub mod LineLaws
 pub mod DigitLaws
 pub mod ValueLaws
+pub mod TurnLaws
 mod StimulusExamples

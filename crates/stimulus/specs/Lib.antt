@@ -1,3 +1,4 @@
 pub mod Stimulus
 pub mod Lines
+pub mod Reader
 pub mod Calls
