@@ -2,7 +2,7 @@
 -- A line ends with LF; one CR directly before it isn't part of the line. Line 1 is `stimulus 1`. Line 2 is `inputs` and, each after a
 -- space, the names of the data inputs, each once, in any order. Each further line is a row: a hexadecimal value for each name, in that
 -- order, with one space between. Of several faults the one of the first line counts, and within a line the first in order of the kinds.
-use Rattle.std.specs.Prelude.{◌≡◌, ℕ, zero, suc, ◌+◌, ◌*◌, ◌^◌, ◌==◌, Bool, false, not, ◌&&◌, if◌then◌else◌, nat_lt, nat_le, List, [], ◌∷◌, length, map, drop, fold, bytes_eq, codes, Option, Some, None, unwrap_or, slice_get, slice_index_or}
+use Rattle.std.specs.Prelude.{◌≡◌, ℕ, zero, suc, ◌+◌, ◌*◌, ◌^◌, ◌==◌, Bool, false, not, ◌&&◌, if◌then◌else◌, nat_lt, nat_le, List, [], ◌∷◌, ◌++◌, length, map, drop, fold, bytes_eq, codes, Option, Some, None, unwrap_or, slice_get, slice_index_or}
 use Rattle.std.specs.List.{slice_split, list_all, list_any}
 use Rattle.std.specs.Str.Lines.{strip_carriage_return}
 use Rattle.std.specs.Char.{is_ascii_hexdigit, digit_value}
@@ -61,7 +61,7 @@ name_fault inputs before name =
 -- the fault of the leftmost bad name
 abbrev pub bad_name : List Input → List (List ℕ) → List (List ℕ) → Option RefusalKind
 bad_name inputs before [] = None
-bad_name inputs before (name ∷ names) = or_else (name_fault inputs before name) (bad_name inputs (name ∷ before) names)
+bad_name inputs before (name ∷ names) = or_else (name_fault inputs before name) (bad_name inputs (before ++ name ∷ []) names)
 
 -- the fault of names that lack a data input
 abbrev pub lack_fault : List Input → List (List ℕ) → Option RefusalKind

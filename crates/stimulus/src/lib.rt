@@ -2,6 +2,9 @@
 #![tactic(auto)]
 
 mod buffer;
+mod columns;
 mod digits;
+mod judge;
 mod lines;
+mod names;
 pub mod refusal;
