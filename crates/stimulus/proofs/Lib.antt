@@ -2,4 +2,6 @@ pub mod LineLaws
 pub mod DigitLaws
 pub mod ValueLaws
 pub mod TurnLaws
+pub mod StandLaws
+pub mod FaultLaws
 mod StimulusExamples

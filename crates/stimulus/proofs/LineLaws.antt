@@ -1,13 +1,12 @@
 -- The reading of a text that begins with whole lines, none of which has a fault.
-use Rattle.std.proofs.Common.{◌≡◌, ℕ, zero, suc, ◌+◌, ◌<◌, ◌≤◌, Bool, true, false, cond, if◌then◌else◌, List, [], ◌∷◌, ◌++◌, length, drop, map, Option, Some, None, refl, sym, ap, ◌∙◌, subst, arith, append_assoc, append-nil, length-append}
+use Rattle.std.proofs.Common.{◌≡◌, ℕ, suc, ◌+◌, ◌<◌, ◌≤◌, Bool, true, false, if◌then◌else◌, List, [], ◌∷◌, ◌++◌, length, drop, map, Option, Some, None, refl, sym, ap, ◌∙◌, subst, arith, append_assoc, append-nil, length-append}
 use Rattle.std.specs.Prelude.{nat_lt, ◌==◌, ◌&&◌}
 use Rattle.std.proofs.lemmas.Bool.Decides.{nat_tests}
 use Rattle.std.proofs.lemmas.List.Splits.{slice_split_at, slice_split_none, length-slice_split}
 use Rattle.stimulus.specs.declared.refusal.Input.{Input}
-use Rattle.stimulus.specs.declared.refusal.Refusal.{Refusal}
 use Rattle.stimulus.specs.declared.refusal.RefusalKind.{RefusalKind}
 use Rattle.stimulus.specs.declared.refusal.RefusalKind.TheVariants as k
-use Rattle.stimulus.specs.Stimulus.{Reading, rows, refused, stimulus, pieces, is_long, line_fault, tail_fault, refusal_at, first_refusal, rows_of, row_of, second, names_of, reading_of, IsOpen, MayGoOn}
+use Rattle.stimulus.specs.Stimulus.{rows, refused, stimulus, pieces, is_long, line_fault, tail_fault, refusal_at, first_refusal, rows_of, row_of, second, names_of, reading_of, IsOpen, MayGoOn}
 use Rattle.stimulus.specs.Lines.{IsPlain, ArePlain, text_of, HavePassed}
 
 some_pieces : (bytes : List ℕ) → 0 < length (pieces bytes)

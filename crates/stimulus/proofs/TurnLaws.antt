@@ -1,16 +1,15 @@
 -- Finding the next line, one call to the source after another.
-use Rattle.std.proofs.Common.{◌≡◌, ℕ, zero, suc, ◌+◌, ◌-◌, ◌<◌, ◌≤◌, ◌⊎◌, inl, inr, Bool, true, false, List, [], ◌∷◌, ◌++◌, length, take, drop, get_or, Option, Some, None, refl, sym, ap, ◌∙◌, subst, arith, append_assoc, append-nil, length-append}
-use Rattle.std.specs.Prelude.{◌==◌, All, Result, Ok, Err}
+use Rattle.std.proofs.Common.{◌≡◌, ℕ, ◌+◌, ◌-◌, ◌<◌, ◌≤◌, inl, inr, true, false, List, [], ◌∷◌, ◌++◌, length, take, drop, get_or, Option, Some, None, sym, ap, ◌∙◌, subst, arith, append_assoc, append-nil}
+use Rattle.std.specs.Prelude.{◌==◌}
 use Rattle.std.specs.Io.KnownBytes.{Consumes}
 use Rattle.std.proofs.KnownBytes.{Consumes-trans}
 use Rattle.std.proofs.lemmas.Bool.{cases_lt, ne_eqb}
 use Rattle.std.proofs.lemmas.List.{take_all, take-append-drop, drop_more, get_or_default, get_or-take, get_or-drop, length-take-le, length-drop, take_at}
 use Rattle.std.proofs.lemmas.Bool.Decides.{nat_tests}
-use Rattle.memchr.specs.Find.{IsFirstByte, is_byte, NoneBefore}
-use Rattle.stimulus.specs.declared.refusal.TheConstants.{MAX_LINE}
+use Rattle.memchr.specs.Find.{IsFirstByte, is_byte}
 use Rattle.stimulus.specs.Lines.{IsPlain}
 use Rattle.stimulus.specs.Reader.{Held}
-use Rattle.stimulus.specs.Calls.Turns.{HasLine, IsInTime, IsOpenLine, WasOpen, Fills}
+use Rattle.stimulus.specs.Calls.Turns.{HasLine, IsInTime, IsOpenLine, WasOpen}
 
 -- no LF among the first bytes, nor among so many after them
 plain_further : (bytes : List ℕ) (s n : ℕ) → s + n ≤ length bytes → IsPlain (take s bytes)
@@ -21,12 +20,12 @@ plain_further bytes s n within plain none i d less =
     let at : get_or (take (s + n) bytes) i d ≡ get_or bytes i d = get_or-take (s + n) bytes i d few in
     elim (cases_lt i s) [
       | inl before ↦
-      let first : i < length (take s bytes) = omega (arith, length-take-le s bytes (omega (arith, within))) in
-      ap (λ b. b == 10) (at ∙ sym (get_or-take s bytes i d before)) ∙ plain i d first
+          let first : i < length (take s bytes) = omega (arith, length-take-le s bytes (omega (arith, within))) in
+          ap (λ b. b == 10) (at ∙ sym (get_or-take s bytes i d before)) ∙ plain i d first
       | inr after ↦
-      let e : s + (i - s) ≡ i = omega arith in
-      ap (λ b. b == 10) (at ∙ ap (λ m. get_or bytes m d) (sym e) ∙ sym (get_or-drop s bytes (i - s) d)
-      ∙ get_or_default (drop s bytes) (i - s) d 0 (omega (arith, length-drop s bytes, within, few))) ∙ none (i - s) (omega arith)
+          let e : s + (i - s) ≡ i = omega arith in
+          ap (λ b. b == 10) (at ∙ ap (λ m. get_or bytes m d) (sym e) ∙ sym (get_or-drop s bytes (i - s) d)
+          ∙ get_or_default (drop s bytes) (i - s) d 0 (omega (arith, length-drop s bytes, within, few))) ∙ none (i - s) (omega arith)
     ]
 
 is_ten : (b : ℕ) → (b == 10) ≡ true → b ≡ 10

@@ -1,5 +1,5 @@
 -- Reading the values of a row, one after another.
-use Rattle.std.proofs.Common.{◌≡◌, ℕ, zero, suc, ◌+◌, ◌<◌, ◌≤◌, Bool, true, false, List, [], ◌∷◌, ◌++◌, length, take, drop, set, get_or, map, Option, Some, None, refl, sym, ap, ◌∙◌, subst, arith, append_assoc, append-nil, length-append}
+use Rattle.std.proofs.Common.{◌≡◌, ℕ, ◌+◌, ◌<◌, ◌≤◌, true, false, List, [], ◌∷◌, ◌++◌, length, take, drop, set, get_or, map, Option, Some, None, refl, sym, ap, ◌∙◌, arith, append_assoc, append-nil, length-append}
 use Rattle.std.specs.Prelude.{◌==◌, if◌then◌else◌}
 use Rattle.std.specs.Borrow.{Bor}
 use Rattle.std.specs.List.{count_by}
@@ -8,7 +8,7 @@ use Rattle.std.proofs.lemmas.List.{take_more_set, drop_more, drop_all, take_all,
 use Rattle.std.proofs.lemmas.List.Splits.{length-slice_split}
 use Rattle.stimulus.specs.declared.refusal.RefusalKind.{RefusalKind}
 use Rattle.stimulus.specs.declared.refusal.RefusalKind.TheVariants as k
-use Rattle.stimulus.specs.Stimulus.{words, values_of, number_of, value_fault, bad_value, row_fault, or_else}
+use Rattle.stimulus.specs.Stimulus.{values_of, number_of, value_fault, bad_value, row_fault, or_else}
 use Rattle.stimulus.specs.Calls.Digits.{is_space, words_in}
 
 pub count_law : (line : List ℕ) → 0 < length line → count_by is_space line + 1 ≡ length (values_of line)

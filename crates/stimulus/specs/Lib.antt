@@ -1,4 +1,5 @@
 pub mod Stimulus
 pub mod Lines
 pub mod Reader
+pub mod Reads
 pub mod Calls

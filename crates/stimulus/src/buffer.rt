@@ -16,7 +16,7 @@ use std::marker::Model;
 const READ: usize = 65_536;
 
 // A line that may still go on, and the bytes of one call.
-const ROOM: usize = 589_824;
+const ROOM: usize = MAX_LINE + READ;
 
 /// The bytes that were taken and not passed over yet.
 #[derive(Drop)]
@@ -30,12 +30,13 @@ pub(crate) struct Buffer {
 impl Model for Buffer {
     ghost use Rattle.std.specs.Prelude.{◌≡◌, ◌≤◌, length, slice_range};
     ghost use Rattle.stimulus.specs.Reader.{Held};
+    ghost use Rattle.stimulus.specs.declared.buffer.TheConstants.{ROOM};
 
     ghost Value = { Held };
 
     ghost view = { λ b. record { bytes = slice_range b.bytes.items b.at b.end; fresh = b.fresh } };
 
-    ghost invariant = { λ b. (length b.bytes.items ≡ 589824) × (b.at ≤ b.end) × (b.end ≤ length b.bytes.items) };
+    ghost invariant = { λ b. (length b.bytes.items ≡ ROOM) × (b.at ≤ b.end) × (b.end ≤ length b.bytes.items) };
 }
 
 impl Buffer {

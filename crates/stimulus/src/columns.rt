@@ -26,13 +26,14 @@ impl Model for Columns {
     ghost use Rattle.std.specs.Prelude.{◌≡◌, ◌≤◌, ◌<◌, length};
     ghost use Rattle.std.specs.List.{All};
     ghost use Rattle.stimulus.specs.Reader.{Layout};
+    ghost use Rattle.dt_core.specs.declared.limits.TheConstants.{MAX_WIDTH};
 
     ghost Value = { Layout };
 
     ghost view = { λ c. record { widths = c.widths.items; places = c.places.items; row = c.row.items } };
 
     ghost invariant = { λ c. (length c.values.items ≡ length c.widths.items) × (length c.row.items ≡ length c.places.items)
-      × All (λ place. place < length c.widths.items) c.places.items × All (λ w. w ≤ 128) c.widths.items };
+        × All (λ place. place < length c.widths.items) c.places.items × All (λ w. w ≤ MAX_WIDTH) c.widths.items };
 }
 
 impl Columns {

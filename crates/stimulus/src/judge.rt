@@ -1,6 +1,6 @@
 //! Judging a line by its number.
 
-ghost use Rattle.std.specs.Prelude.{◌≡◌, ◌+◌, ◌-◌, ◌≤◌, Some, None, map, drop, bytes_eq, codes, nat_le, if◌then◌else◌};
+ghost use Rattle.std.specs.Prelude.{◌≡◌, ◌+◌, ◌-◌, ◌≤◌, ◌<◌, OnOk, Some, None, map, drop, bytes_eq, codes, nat_le, if◌then◌else◌};
 ghost use Rattle.std.specs.List.{All};
 ghost use Rattle.std.specs.Str.Lines.{strip_carriage_return};
 ghost use Rattle.stimulus.specs.Stimulus.{names_fault, row_fault, values_of, numbers_at, words};
@@ -36,7 +36,12 @@ fn judge_title(line: &[u8]) -> Result<(), LineFault>
 }
 
 // Judges line 2, and takes the columns that it gives.
-fn judge_names(alloc: Global, inputs: &[Input], columns: &mut Columns, line: &[u8]) -> Result<(), LineFault>
+fn judge_names(
+    alloc: Global,
+    inputs: &[Input],
+    columns: &mut Columns,
+    line: &[u8],
+) -> Result<(), LineFault>
     requires { All (λ i. i.width ≤ MAX_WIDTH) inputs.now }
     ensures { Judges (names_fault inputs.now (words line.now)) (λ _. IsLayout inputs.now (drop 1 (words line.now)) columns.new) result }
 {
@@ -54,6 +59,7 @@ fn judge_row(columns: &mut Columns, given: u64, line: &[u8]) -> Result<(), LineF
     ensures row { Judges (if nat_le MAX_ROWS given then Some k.TooManyRows else row_fault columns.old.widths (values_of line.now))
         (λ _. columns.new.row ≡ numbers_at (values_of line.now) columns.old.places) result }
     ensures same { (columns.new.widths ≡ columns.old.widths) × (columns.new.places ≡ columns.old.places) }
+    ensures few { OnOk result (given < MAX_ROWS) }
 {
     if given >= MAX_ROWS as u64 {
         return Err(LineFault::Refused(RefusalKind::TooManyRows));
@@ -73,7 +79,8 @@ pub(crate) fn judge(
     line: &[u8],
 ) -> Result<(), LineFault>
     requires { All (λ i. i.width ≤ MAX_WIDTH) inputs.now }
-    ensures { JudgesLine inputs.now number line.now columns.old columns.new result }
+    ensures judges { JudgesLine inputs.now number line.now columns.old columns.new result }
+    ensures few { OnOk result (number < MAX_ROWS + 2) }
 {
     let content = without_return(line);
     match number {

@@ -21,8 +21,7 @@ pub(crate) enum LineFault {
 impl From<AllocError> for LineFault {
     ghost from_gives = { λ _ fault. fault ≡ f.Memory };
 
-    fn from(_: AllocError) -> LineFault
-    {
+    fn from(_: AllocError) -> LineFault {
         LineFault::Memory
     }
 }
@@ -108,7 +107,11 @@ fn find_place(names: &[&[u8]], name: &[u8]) -> Option<usize>
 }
 
 // Where the name of each input stands; or that one doesn't.
-pub(crate) fn places_of(alloc: Global, inputs: &[Input], names: &[&[u8]]) -> Result<Vec<usize>, LineFault>
+pub(crate) fn places_of(
+    alloc: Global,
+    inputs: &[Input],
+    names: &[&[u8]],
+) -> Result<Vec<usize>, LineFault>
     ensures value { Judges (lack_fault inputs.now (shown names.now))
         (λ v. v.items ≡ map (λ i. place_of (shown names.now) i.name) inputs.now) result }
     ensures within { IfOk result (λ v. All (λ place. place < length names.now) v.items) }
@@ -141,7 +144,11 @@ fn width_for(inputs: &[Input], name: &[u8]) -> u32
 }
 
 // The widths of the inputs of the names.
-pub(crate) fn widths_for(alloc: Global, inputs: &[Input], names: &[&[u8]]) -> Result<Vec<u32>, AllocError>
+pub(crate) fn widths_for(
+    alloc: Global,
+    inputs: &[Input],
+    names: &[&[u8]],
+) -> Result<Vec<u32>, AllocError>
     requires { All (λ i. i.width ≤ MAX_WIDTH) inputs.now }
     ensures value { IfOk result (λ v. v.items ≡ widths_of inputs.now (shown names.now)) }
     ensures few { IfOk result (λ v. All (λ w. w ≤ MAX_WIDTH) v.items) }

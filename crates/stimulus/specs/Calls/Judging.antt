@@ -1,5 +1,5 @@
 -- What judging a line promises. This project's own.
-use Rattle.std.specs.Prelude.{◌≡◌, ℕ, ◌≤◌, List, [], ◌∷◌, drop, map, Option, None, Some, Result, Ok, Err}
+use Rattle.std.specs.Prelude.{◌≡◌, ℕ, ◌≤◌, List, drop, map, None, Some, Result, Ok, Err}
 use Rattle.std.specs.Str.Lines.{strip_carriage_return}
 use Rattle.stimulus.specs.declared.refusal.Input.{Input}
 use Rattle.stimulus.specs.declared.refusal.RefusalKind.{RefusalKind}

@@ -1,7 +1,6 @@
 -- What reading the names of line 2 promises. This project's own.
-use Rattle.std.specs.Prelude.{◌≡◌, ℕ, ◌<◌, Bool, true, false, List, [], ◌∷◌, ◌++◌, length, map, Option, None, Some, Result, Ok, Err}
+use Rattle.std.specs.Prelude.{◌≡◌, ℕ, ◌<◌, true, false, List, length, map, Option, None, Some, Result, Ok, Err}
 use Rattle.std.specs.Borrow.{Bor}
-use Rattle.stimulus.specs.declared.refusal.Input.{Input}
 use Rattle.stimulus.specs.declared.refusal.RefusalKind.{RefusalKind}
 use Rattle.stimulus.specs.declared.names.LineFault.{LineFault}
 use Rattle.stimulus.specs.declared.names.LineFault.TheVariants as f

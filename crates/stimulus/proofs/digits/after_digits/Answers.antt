@@ -1,4 +1,4 @@
-use Rattle.std.proofs.Common.{◌≡◌, ◌∷◌, refl, get_or, ◌+◌, ◌-◌, ◌<◌, ◌∙◌, ap, sym, take, drop, length, arith}
+use Rattle.std.proofs.Common.{◌∷◌, refl, get_or, ◌+◌, ◌-◌, ◌<◌, ◌∙◌, ap, sym, take, drop, length, arith}
 use Rattle.std.proofs.lemmas.List.{take_all, length-drop, get_or_default}
 use Rattle.std.proofs.lemmas.Bool.{ltb-true, ne_eqb}
 use Rattle.stimulus.specs.Stimulus.{words}

@@ -1,4 +1,4 @@
-use Rattle.std.proofs.Common.{◌≡◌, ◌+◌, ◌∙◌, ap, arith}
+use Rattle.std.proofs.Common.{◌+◌, ◌∙◌, ap, arith}
 use Rattle.stimulus.proofs.ValueLaws.{count_law}
 use Rattle.stimulus.proofs.digits.count_values.Goals as goal
 

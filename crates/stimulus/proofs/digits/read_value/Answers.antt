@@ -1,4 +1,4 @@
-use Rattle.std.proofs.Common.{◌≡◌, ◌<◌, ◌∙◌, ap, sym, subst, take, get_or, length, false, refl, arith}
+use Rattle.std.proofs.Common.{◌≡◌, ◌<◌, sym, subst, take, get_or, length, false, arith}
 use Rattle.std.specs.Char.{is_ascii_hexdigit}
 use Rattle.std.proofs.lemmas.List.{length-take-le}
 use Rattle.stimulus.specs.Stimulus.{number_of}

@@ -1,4 +1,4 @@
-use Rattle.std.proofs.Common.{◌∙◌, ap, arith, length}
+use Rattle.std.proofs.Common.{◌∙◌, ap, arith}
 use Rattle.std.proofs.lemmas.List.{length-set}
 use Rattle.stimulus.specs.Calls.Digits.{words_in}
 use Rattle.stimulus.proofs.ValueLaws.{led_on}

@@ -1,7 +1,7 @@
-use Rattle.std.proofs.Common.{◌≡◌, ◌∙◌, ◌++◌, List, ℕ, length, sym, ap, subst, append_assoc, length-append, arith, inl, inr}
+use Rattle.std.proofs.Common.{◌∙◌, length, sym, ap, subst, length-append, arith, inr}
 use Rattle.stimulus.specs.Lines.{IsPlain}
 use Rattle.stimulus.specs.Calls.Turns.{IsOpenLine}
-use Rattle.stimulus.proofs.TurnLaws.{found, not_found, part_is, plain_front, given, none_given, failed, more_taken}
+use Rattle.stimulus.proofs.TurnLaws.{found, not_found, part_is, plain_front, given, none_given, more_taken}
 use Rattle.stimulus.proofs.lines.next_line.Goals as goal
 use Rattle.stimulus.proofs.lines.next_line.Goals.{After-held-searched, After-fill}
 

@@ -1,6 +1,6 @@
-use Rattle.std.proofs.Common.{◌≡◌, ℕ, zero, suc, [], ◌∷◌, ◌+◌, ◌-◌, ◌<◌, List, ◌++◌, length, take, drop, sym, ap, ◌∙◌, arith}
+use Rattle.std.proofs.Common.{◌≡◌, ℕ, zero, suc, [], ◌∷◌, ◌+◌, ◌-◌, List, ◌++◌, length, take, drop, sym, ap, ◌∙◌, arith}
 use Rattle.std.specs.List.{slice_range}
-use Rattle.std.proofs.lemmas.List.{take_all, take_at, length-take, length-drop, length-take-le, take-append-drop}
+use Rattle.std.proofs.lemmas.List.{take_all, take_at, length-take, length-drop}
 use Rattle.stimulus.specs.Reader.{Held}
 use Rattle.stimulus.proofs.buffer.Buffer.fill.Goals as goal
 
@@ -34,7 +34,9 @@ returns-in-Ok-clause-fills g c =
     omega (arith, length-take n (drop len read), length-drop len read, size, c.in-Ok.ensures.few, c.requires, ap length held, length-take len read, c.self.invariant, i.bytes.ok.0) in (
       more,
       c.in-Ok.ensures.taken,
-      (ap (λ xs. slice_range xs 0 (len + n)) two ∙ range_front read (len + n) ∙ two_parts read len n ∙ ap (λ t. t ++ more) held,
-      sym count,
-      omega (arith, count, c.in-Ok.count-test)),
+      (
+        ap (λ xs. slice_range xs 0 (len + n)) two ∙ range_front read (len + n) ∙ two_parts read len n ∙ ap (λ t. t ++ more) held,
+        sym count,
+        omega (arith, count, c.in-Ok.count-test),
+      ),
     )

@@ -1,4 +1,3 @@
-use Rattle.std.proofs.Common.{ℕ}
 use Rattle.stimulus.proofs.DigitLaws.{over_large, shift_large}
 use Rattle.stimulus.proofs.digits.Number.is_too_large.Goals as goal
 
