@@ -1,6 +1,6 @@
 //! Hexadecimal digits and the values of a row.
 
-ghost use Rattle.std.specs.Prelude.{◌≡◌, ◌+◌, ◌*◌, ◌^◌, ◌<◌, ◌≤◌, ℕ, length, map, nat_le};
+ghost use Rattle.std.specs.Prelude.{◌≡◌, ◌+◌, ◌*◌, ◌^◌, ◌<◌, ◌≤◌, ℕ, length, nat_le, nat_lt};
 ghost use Rattle.stimulus.specs.Calls.Digits.{EndsPiece, IsDigitRun, IsNumber, IsRun, ReadsValue, ReadsValues, digit_code, is_space, words_in};
 ghost use Rattle.stimulus.specs.Stimulus.{values_of, words};
 ghost use Rattle.std.specs.List.{All, count_by};
@@ -78,6 +78,15 @@ impl Number {
     }
 }
 
+impl Run {
+    // Whether there is a digit.
+    fn is_value(self) -> bool
+        ensures { result ≡ nat_lt 0 self.count }
+    {
+        self.count > 0
+    }
+}
+
 // The digits at the head of the bytes.
 fn read_digits(bytes: &[u8]) -> Run
     ensures { IsRun bytes.now result }
@@ -117,7 +126,7 @@ fn read_value(bytes: &[u8], width: u32) -> Result<(u128, Option<&[u8]>), Refusal
     ensures { ReadsValue width bytes.now result }
 {
     let run = read_digits(bytes);
-    if run.count == 0 {
+    if !run.is_value() {
         return Err(RefusalKind::BadValue);
     }
     match after_digits(bytes, run.count) {
