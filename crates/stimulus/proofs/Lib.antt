@@ -4,4 +4,6 @@ pub mod ValueLaws
 pub mod TurnLaws
 pub mod StandLaws
 pub mod FaultLaws
+pub mod GluedLaws
+pub mod FitLaws
 mod StimulusExamples

@@ -20,7 +20,7 @@ pieces_lines (l ∷ ls) rest p =
     ∙ ap (λ ps. l ∷ ps) (pieces_lines ls rest p.1)
 
 -- a line that others follow
-step : (fault : ℕ → List ℕ → Option RefusalKind) (n : ℕ) (line : List ℕ) (ps : List (List ℕ)) → 0 < length ps
+pub step : (fault : ℕ → List ℕ → Option RefusalKind) (n : ℕ) (line : List ℕ) (ps : List (List ℕ)) → 0 < length ps
     → first_refusal fault n (line ∷ ps) ≡ refusal_at n (fault n line) (first_refusal fault (suc n) ps)
 step fault n line [] l = absurd (omega arith)
 step fault n line (p ∷ ps) l = refl

@@ -14,6 +14,7 @@ mod buffer;
 mod columns;
 mod digits;
 mod judge;
+pub mod laws;
 mod lines;
 mod names;
 pub mod reader;
