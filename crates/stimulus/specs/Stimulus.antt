@@ -61,7 +61,8 @@ name_fault inputs before name =
 -- the fault of the leftmost bad name
 abbrev pub bad_name : List Input → List (List ℕ) → List (List ℕ) → Option RefusalKind
 bad_name inputs before [] = None
-bad_name inputs before (name ∷ names) = or_else (name_fault inputs before name) (bad_name inputs (before ++ name ∷ []) names)
+bad_name inputs before (name ∷ names) =
+    or_else (name_fault inputs before name) (bad_name inputs (before ++ name ∷ []) names)
 
 -- the fault of names that lack a data input
 abbrev pub lack_fault : List Input → List (List ℕ) → Option RefusalKind
@@ -70,7 +71,8 @@ lack_fault inputs names = if list_all (λ i. has_name names i.name) inputs then 
 -- the fault of line 2, by its pieces
 abbrev pub names_fault : List Input → List (List ℕ) → Option RefusalKind
 names_fault inputs ws =
-    if not (are_names ws) then Some k.BadHeader else or_else (bad_name inputs [] (drop 1 ws)) (lack_fault inputs (drop 1 ws))
+    if not (are_names ws) then Some k.BadHeader
+    else or_else (bad_name inputs [] (drop 1 ws)) (lack_fault inputs (drop 1 ws))
 
 -- the names that line 2 gives
 abbrev pub names_of : List ℕ → List (List ℕ)
@@ -108,7 +110,8 @@ number_of value = fold (λ n digit. 16 * n + digit_value digit) 0 value
 -- the fault of a value of this width
 abbrev pub value_fault : ℕ → List ℕ → Option RefusalKind
 value_fault width value =
-    if not (is_number value) then Some k.BadValue else (if nat_le (2 ^ width) (number_of value) then Some k.TooLarge else None)
+    if not (is_number value) then Some k.BadValue
+    else (if nat_le (2 ^ width) (number_of value) then Some k.TooLarge else None)
 
 -- the fault of the leftmost bad value
 abbrev pub bad_value : List ℕ → List (List ℕ) → Option RefusalKind

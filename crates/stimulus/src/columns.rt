@@ -32,7 +32,8 @@ impl Model for Columns {
 
     ghost view = { λ c. record { widths = c.widths.items; places = c.places.items; row = c.row.items } };
 
-    ghost invariant = { λ c. (length c.values.items ≡ length c.widths.items) × (length c.row.items ≡ length c.places.items)
+    ghost invariant = { λ c. (length c.values.items ≡ length c.widths.items)
+        × (length c.row.items ≡ length c.places.items)
         × All (λ place. place < length c.widths.items) c.places.items × All (λ w. w ≤ MAX_WIDTH) c.widths.items };
 }
 
@@ -50,7 +51,8 @@ impl Columns {
     /// The columns of line 2, or its fault.
     pub fn of_line(alloc: Global, inputs: &[Input], line: &[u8]) -> Result<Columns, LineFault>
         requires { All (λ i. i.width ≤ MAX_WIDTH) inputs.now }
-        ensures { Judges (names_fault inputs.now (words line.now)) (λ c. IsLayout inputs.now (drop 1 (words line.now)) c) result }
+        ensures { Judges (names_fault inputs.now (words line.now))
+            (λ c. IsLayout inputs.now (drop 1 (words line.now)) c) result }
     {
         let words = words_of(alloc, line)?;
         if !are_names_of(&words) {

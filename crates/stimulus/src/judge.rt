@@ -26,7 +26,8 @@ fn without_return(line: &[u8]) -> &[u8]
 
 // Judges line 1.
 fn judge_title(line: &[u8]) -> Result<(), LineFault>
-    ensures { Judges (if bytes_eq line.now (codes "stimulus 1") then None else Some k.BadHeader) (λ _. Unit {0}) result }
+    ensures { Judges (if bytes_eq line.now (codes "stimulus 1") then None else Some k.BadHeader)
+        (λ _. Unit {0}) result }
 {
     if line == b"stimulus 1".as_slice() {
         Ok(())
@@ -43,7 +44,8 @@ fn judge_names(
     line: &[u8],
 ) -> Result<(), LineFault>
     requires { All (λ i. i.width ≤ MAX_WIDTH) inputs.now }
-    ensures { Judges (names_fault inputs.now (words line.now)) (λ _. IsLayout inputs.now (drop 1 (words line.now)) columns.new) result }
+    ensures { Judges (names_fault inputs.now (words line.now))
+        (λ _. IsLayout inputs.now (drop 1 (words line.now)) columns.new) result }
 {
     match Columns::of_line(alloc, inputs, line) {
         Ok(made) => {
@@ -56,7 +58,8 @@ fn judge_names(
 
 // Judges a row after `given` rows, and reads it.
 fn judge_row(columns: &mut Columns, given: u64, line: &[u8]) -> Result<(), LineFault>
-    ensures row { Judges (if nat_le MAX_ROWS given then Some k.TooManyRows else row_fault columns.old.widths (values_of line.now))
+    ensures row { Judges
+        (if nat_le MAX_ROWS given then Some k.TooManyRows else row_fault columns.old.widths (values_of line.now))
         (λ _. columns.new.row ≡ numbers_at (values_of line.now) columns.old.places) result }
     ensures same { (columns.new.widths ≡ columns.old.widths) × (columns.new.places ≡ columns.old.places) }
     ensures few { OnOk result (given < MAX_ROWS) }

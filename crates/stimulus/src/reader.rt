@@ -41,7 +41,8 @@ impl Model for StimReader {
       live = r.live;
     } };
 
-    ghost invariant = { λ r. All (λ i. i.width ≤ MAX_WIDTH) r.inputs.items × (r.number ≤ MAX_ROWS + 2) × ((r.number ≡ 0) ⊎ (2 ≤ r.number)) };
+    ghost invariant = { λ r. All (λ i. i.width ≤ MAX_WIDTH) r.inputs.items × (r.number ≤ MAX_ROWS + 2)
+        × ((r.number ≡ 0) ⊎ (2 ≤ r.number)) };
 }
 
 impl StimReader {
@@ -73,7 +74,8 @@ impl StimReader {
         requires { IsTrue self.old.live }
         ensures answer { (taken : List ℕ) (given : List (List ℕ)) → Reads self.old taken given
             → (more : List ℕ) × Consumes (S.left source.old) (S.left source.new) more
-            × RowIs given (taken ++ more) self.new (S.left source.new) (S.faults source.old) (S.faults source.new) result }
+            × RowIs given (taken ++ more) self.new
+            (S.left source.new) (S.faults source.old) (S.faults source.new) result }
         ensures inputs { self.new.inputs ≡ self.old.inputs }
         ensures live { IsTrue self.new.live ↔ (result ≡ Ok true) }
         ensures later { S.faults source.old ≤ S.faults source.new }

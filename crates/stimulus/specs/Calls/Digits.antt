@@ -44,16 +44,19 @@ words_in (Some rest) = words rest.now
 abbrev pub EndsPiece : List ℕ → ℕ → Result (Option (Bor (List ℕ))) RefusalKind → Type 0
 EndsPiece bytes n (Ok rest) = words bytes ≡ take n bytes ∷ words_in rest
 EndsPiece bytes n (Err kind) =
-    (kind ≡ k.BadValue) × (value : List ℕ) × (more : List (List ℕ)) × (words bytes ≡ value ∷ more) × (is_number value ≡ false)
+    (kind ≡ k.BadValue) × (value : List ℕ) × (more : List (List ℕ))
+    × (words bytes ≡ value ∷ more) × (is_number value ≡ false)
 
 -- the value at the head of the bytes, of this width, and what is left after it; or its fault
 abbrev pub ReadsValue : ℕ → List ℕ → Result (ℕ × Option (Bor (List ℕ))) RefusalKind → Type 0
 ReadsValue width bytes (Ok read) =
-    (value : List ℕ) × (words bytes ≡ value ∷ words_in read.1) × (value_fault width value ≡ None) × (read.0 ≡ number_of value)
+    (value : List ℕ) × (words bytes ≡ value ∷ words_in read.1)
+    × (value_fault width value ≡ None) × (read.0 ≡ number_of value)
 ReadsValue width bytes (Err kind) =
     (value : List ℕ) × (more : List (List ℕ)) × (words bytes ≡ value ∷ more) × (value_fault width value ≡ Some kind)
 
 -- the values of a row that has no fault, or its fault
 abbrev pub ReadsValues : List ℕ → List ℕ → List ℕ → Result (Unit {0}) RefusalKind → Type 0
-ReadsValues widths line values (Ok read) = (row_fault widths (values_of line) ≡ None) × (values ≡ map number_of (values_of line))
+ReadsValues widths line values (Ok read) =
+    (row_fault widths (values_of line) ≡ None) × (values ≡ map number_of (values_of line))
 ReadsValues widths line values (Err kind) = row_fault widths (values_of line) ≡ Some kind

@@ -15,7 +15,8 @@ pub record IsLayout (inputs : List Input) (names : List (List ℕ)) (layout : La
 
 -- the row of a line that has no fault, or its fault
 abbrev pub ReadsRow : Layout → Layout → List ℕ → Result (Unit {0}) RefusalKind → Type 0
-ReadsRow old new line (Ok read) = (row_fault old.widths (values_of line) ≡ None) × (new.row ≡ numbers_at (values_of line) old.places)
+ReadsRow old new line (Ok read) =
+    (row_fault old.widths (values_of line) ≡ None) × (new.row ≡ numbers_at (values_of line) old.places)
 ReadsRow old new line (Err kind) = row_fault old.widths (values_of line) ≡ Some kind
 
 -- what is known after line 2, and after a row
@@ -27,4 +28,5 @@ pub record Took (inputs : List Input) (names : List (List ℕ)) (number : ℕ) (
 abbrev pub JudgesLine : List Input → ℕ → List ℕ → Layout → Layout → Result (Unit {0}) LineFault → Type 0
 JudgesLine inputs number line old new result =
     (names : List (List ℕ)) → (2 ≤ number → IsLayout inputs names old)
-    → Judges (content_fault inputs names number (strip_carriage_return line)) (λ _. Took inputs names number line new) result
+    → Judges (content_fault inputs names number (strip_carriage_return line))
+    (λ _. Took inputs names number line new) result

@@ -12,7 +12,8 @@ shown names = map (λ n. n.now) names
 
 -- the place of a name, where it is among the names
 abbrev pub FindsPlace : List (List ℕ) → List ℕ → Option ℕ → Type 0
-FindsPlace names name (Some place) = (has_name names name ≡ true) × (place ≡ place_of names name) × (place < length names)
+FindsPlace names name (Some place) =
+    (has_name names name ≡ true) × (place ≡ place_of names name) × (place < length names)
 FindsPlace names name None = has_name names name ≡ false
 
 -- no fault, or the fault

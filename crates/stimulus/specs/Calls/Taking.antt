@@ -35,11 +35,13 @@ LineIs inputs number given all layout held left before now (Ok true) =
     Stands inputs (number + 1) layout held all (rows_after number given layout.row) × (now ≡ before)
 LineIs inputs number given all layout held left before now (Ok false) =
     (stimulus inputs all ≡ rows given) × IsAtEnd left × (2 ≤ number) × (now ≡ before)
-LineIs inputs number given all layout held left before now (Err fault) = FaultIs inputs all held.fresh left before now fault
+LineIs inputs number given all layout held left before now (Err fault) =
+    FaultIs inputs all held.fresh left before now fault
 
 -- whatever was taken and given before
 abbrev pub TakesLine :
-    List Input → ℕ → Layout → Held → Layout → Held → Option (List ℕ) → Option (List ℕ) → ℕ → ℕ → Result Bool StimFault → Type 0
+    List Input → ℕ → Layout → Held → Layout → Held
+    → Option (List ℕ) → Option (List ℕ) → ℕ → ℕ → Result Bool StimFault → Type 0
 TakesLine inputs number layout held layout' held' left left' before now result =
     (taken : List ℕ) (given : List (List ℕ)) → Stands inputs number layout held taken given
     → (more : List ℕ) × Consumes left left' more
@@ -53,7 +55,8 @@ HeadIs inputs given all layout held left before now (Ok number) =
 HeadIs inputs given all layout held left before now (Err fault) = FaultIs inputs all held.fresh left before now fault
 
 abbrev pub TakesHead :
-    List Input → ℕ → Layout → Held → Layout → Held → Option (List ℕ) → Option (List ℕ) → ℕ → ℕ → Result ℕ StimFault → Type 0
+    List Input → ℕ → Layout → Held → Layout → Held
+    → Option (List ℕ) → Option (List ℕ) → ℕ → ℕ → Result ℕ StimFault → Type 0
 TakesHead inputs number layout held layout' held' left left' before now result =
     (taken : List ℕ) (given : List (List ℕ)) → Stands inputs number layout held taken given
     → (more : List ℕ) × Consumes left left' more
