@@ -4,7 +4,7 @@ ghost use Rattle.std.specs.Prelude.{◌≡◌, ◌+◌, ◌-◌, ◌≤◌, ◌<
 ghost use Rattle.std.specs.List.{All};
 ghost use Rattle.std.specs.Str.Lines.{strip_carriage_return};
 ghost use Rattle.stimulus.specs.Stimulus.{names_fault, row_fault, values_of, numbers_at, words};
-ghost use Rattle.stimulus.specs.Calls.Names.{Judges};
+ghost use Rattle.stimulus.specs.Calls.Names.{Judges, OnMemory};
 ghost use Rattle.stimulus.specs.Calls.Judging.{IsLayout, JudgesLine};
 ghost use Rattle.stimulus.specs.declared.refusal.RefusalKind.TheVariants as k;
 
@@ -26,8 +26,9 @@ fn without_return(line: &[u8]) -> &[u8]
 
 // Judges line 1.
 fn judge_title(line: &[u8]) -> Result<(), LineFault>
-    ensures { Judges (if bytes_eq line.now (codes "stimulus 1") then None else Some k.BadHeader)
+    ensures judges { Judges (if bytes_eq line.now (codes "stimulus 1") then None else Some k.BadHeader)
         (λ _. Unit {0}) result }
+    ensures memory { OnMemory ⊥ result }
 {
     if line == b"stimulus 1".as_slice() {
         Ok(())
@@ -63,6 +64,7 @@ fn judge_row(columns: &mut Columns, given: u64, line: &[u8]) -> Result<(), LineF
         (λ _. columns.new.row ≡ numbers_at (values_of line.now) columns.old.places) result }
     ensures same { (columns.new.widths ≡ columns.old.widths) × (columns.new.places ≡ columns.old.places) }
     ensures few { OnOk result (given < MAX_ROWS) }
+    ensures memory { OnMemory ⊥ result }
 {
     if given >= MAX_ROWS as u64 {
         return Err(LineFault::Refused(RefusalKind::TooManyRows));
@@ -84,6 +86,7 @@ pub(crate) fn judge(
     requires { All (λ i. i.width ≤ MAX_WIDTH) inputs.now }
     ensures judges { JudgesLine inputs.now number line.now columns.old columns.new result }
     ensures few { OnOk result (number < MAX_ROWS + 2) }
+    ensures memory { OnMemory (number ≡ 1) result }
 {
     let content = without_return(line);
     match number {

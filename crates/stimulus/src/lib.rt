@@ -6,7 +6,8 @@
 //! whole stimulus, and else exactly that refusal; `Truncated` only where the source ended. It takes nothing after the bytes among which
 //! the first refused one is. `Read` comes only where the source's count of faults rose; in every other answer that count is as before,
 //! so no failed read is made again in secret. `specs/Reads` says what a reader has read and what its answers say.
-//! Its memory is taken by `new` and at the first call of `next_row`, and doesn't grow with the input.
+//! It is out of memory only in `new` and in a call that reads line 2. `laws`: a refusal other than Truncated stays, whatever bytes come
+//! after it, and rows fit the data inputs.
 //! Not said: how many bytes are taken ahead of a row, and that a source at its end isn't asked once more (it isn't).
 #![tactic(auto)]
 

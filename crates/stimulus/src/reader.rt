@@ -1,9 +1,10 @@
 //! The reader of a stimulus, which gives its rows one after another.
 
-ghost use Rattle.std.specs.Prelude.{◌≡◌, ◌≤◌, ◌↔◌, ◌++◌, [], List, ℕ, true, IfOk, IsTrue, Ok};
+ghost use Rattle.std.specs.Prelude.{◌≡◌, ◌≤◌, ◌↔◌, ◌++◌, [], List, ℕ, true, IfOk, IsTrue, Ok, Err};
 ghost use Rattle.std.specs.List.{All};
 ghost use Rattle.std.specs.Io.KnownBytes.{Consumes};
 ghost use Rattle.stimulus.specs.Reads.{Reads, RowIs};
+ghost use Rattle.stimulus.specs.declared.refusal.StimFault.TheVariants as f;
 
 use crate::buffer::Buffer;
 use crate::columns::Columns;
@@ -77,6 +78,7 @@ impl StimReader {
             × RowIs given (taken ++ more) self.new
             (S.left source.new) (S.faults source.old) (S.faults source.new) result }
         ensures inputs { self.new.inputs ≡ self.old.inputs }
+        ensures memory { result ≡ Err f.Memory → self.old.number ≡ 0 }
         ensures live { IsTrue self.new.live ↔ (result ≡ Ok true) }
         ensures later { S.faults source.old ≤ S.faults source.new }
     {

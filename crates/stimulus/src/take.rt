@@ -1,8 +1,9 @@
 //! Taking lines from a source, one after another.
 
-ghost use Rattle.std.specs.Prelude.{◌≡◌, ◌+◌, ◌<◌, ◌≤◌, ◌⊎◌, IfOk, Ok, true};
+ghost use Rattle.std.specs.Prelude.{◌≡◌, ◌+◌, ◌<◌, ◌≤◌, ◌⊎◌, IfOk, Ok, Err, true};
 ghost use Rattle.std.specs.List.{All};
 ghost use Rattle.stimulus.specs.Calls.Taking.{TakesHead, TakesLine, end_of, fault_at, refused_at};
+ghost use Rattle.stimulus.specs.declared.refusal.StimFault.TheVariants as f;
 
 use crate::buffer::Buffer;
 use crate::columns::Columns;
@@ -61,6 +62,7 @@ pub(crate) fn take_line<S: Source>(
     ensures line { TakesLine inputs.now number columns.old buffer.old columns.new buffer.new
         (S.left source.old) (S.left source.new) (S.faults source.old) (S.faults source.new) result }
     ensures few { result ≡ Ok true → number < MAX_ROWS + 2 }
+    ensures memory { result ≡ Err f.Memory → number ≡ 1 }
     ensures later { S.faults source.old ≤ S.faults source.new }
 {
     match next_line(buffer, source) {
@@ -97,6 +99,7 @@ pub(crate) fn take_head<S: Source>(
     ensures head { TakesHead inputs.now number columns.old buffer.old columns.new buffer.new
         (S.left source.old) (S.left source.new) (S.faults source.old) (S.faults source.new) result }
     ensures few { IfOk result (λ n. (2 ≤ n) × (n ≤ MAX_ROWS + 2)) }
+    ensures memory { result ≡ Err f.Memory → number ≡ 0 }
     ensures later { S.faults source.old ≤ S.faults source.new }
 {
     if number > 0 {

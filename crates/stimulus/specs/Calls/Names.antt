@@ -21,3 +21,8 @@ abbrev pub Judges : {T : Type 0} → Option RefusalKind → (T → Type 0) → R
 Judges fault P (Ok x) = (fault ≡ None) × P x
 Judges fault P (Err (f.Refused kind)) = fault ≡ Some kind
 Judges fault P (Err f.Memory) = Unit {0}
+
+-- out of memory only where P holds
+abbrev pub OnMemory : {T : Type 0} → Type 0 → Result T LineFault → Type 0
+OnMemory P (Err f.Memory) = P
+OnMemory P _ = Unit {0}
