@@ -1,7 +1,8 @@
 //! Hexadecimal digits and the values of a row.
 
 ghost use Rattle.std.specs.Prelude.{◌≡◌, ◌+◌, ◌*◌, ◌^◌, ◌<◌, ◌≤◌, ℕ, length, nat_le, nat_lt};
-ghost use Rattle.stimulus.specs.Calls.Digits.{EndsPiece, IsDigitRun, IsNumber, IsRun, ReadsValue, ReadsValues, digit_code, is_space, words_in};
+ghost use Rattle.stimulus.specs.Calls.Digits.{EndsPiece, IsDigitRun, IsNumber, IsRun, ReadsValue};
+ghost use Rattle.stimulus.specs.Calls.Digits.{ReadsValues, digit_code, is_space, words_in};
 ghost use Rattle.stimulus.specs.Stimulus.{values_of, words};
 ghost use Rattle.std.specs.List.{All, count_by};
 
