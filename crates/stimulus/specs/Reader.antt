@@ -8,8 +8,8 @@ pub record Held : Type 0 where
   pub bytes : List ℕ
   pub fresh : ℕ
 
--- what line 2 says of the values of a row: their widths, the place of each input's value among them, and the row that was read last, in
--- order of the ports
+-- how rows are read: what line 2 says of the values of a row (their widths, the place of each input's value among them), and room for the
+-- row that was read last, in order of the ports
 pub record Layout : Type 0 where
   pub widths : List ℕ
   pub places : List ℕ

@@ -11,8 +11,8 @@ use Rattle.stimulus.specs.Lines.{text_of, ArePlain, HavePassed}
 use Rattle.stimulus.specs.Reader.{Held, Layout, Reader}
 use Rattle.stimulus.specs.Calls.Judging.{IsLayout}
 
--- further bytes could have made a stimulus of what was taken before the last call to the source that gave bytes; so nothing was taken
--- after the bytes among which the first refused one is
+-- what was taken before the last call to the source that gave bytes was accepted, or refused with nothing but Truncated; so nothing was
+-- taken after the bytes among which the first refusal stands
 pub record InTime (inputs : List Input) (taken : List ℕ) (fresh : ℕ) : Type 0 where
   pub front : List ℕ
   pub last : List ℕ
@@ -36,14 +36,14 @@ abbrev pub Reads : Reader → List ℕ → List (List ℕ) → Type 0
 Reads reader taken given = Stands reader.inputs reader.number reader.layout reader.held taken given
 
 -- why nothing was given, where `all` is what was taken from the source so far, `left` what is left of it, and its count of faults was
--- `before` and is `now`: it rose only where the source failed
+-- `before` and is `now`: that rose only where the source failed; `fresh` counts the bytes of the last call that gave some
 abbrev pub FaultIs : List Input → List ℕ → ℕ → Option (List ℕ) → ℕ → ℕ → StimFault → Type 0
 FaultIs inputs all fresh left before now (f.Refused r) =
     (stimulus inputs all ≡ refused r) × InTime inputs all fresh × (r.kind ≡ k.Truncated → IsAtEnd left) × (now ≡ before)
 FaultIs inputs all fresh left before now f.Read = Rose before now × MayGoOn inputs all
 FaultIs inputs all fresh left before now f.Memory = now ≡ before
 
--- the answer to a request for a row
+-- the answer to a request for a row: one more row; or the end of a text that is accepted whole; or a fault
 abbrev pub RowIs : List (List ℕ) → List ℕ → Reader → Option (List ℕ) → ℕ → ℕ → Result Bool StimFault → Type 0
 RowIs given all reader left before now (Ok true) =
     Reads reader all (given ++ reader.layout.row ∷ []) × (2 ≤ reader.number) × (now ≡ before)

@@ -1,7 +1,8 @@
 -- Stimulus, version 1: from the data inputs and the bytes to the rows, or to the first refusal with its line. This project's own.
 -- A line ends with LF; one CR directly before it isn't part of the line. Line 1 is `stimulus 1`. Line 2 is `inputs` and, each after a
 -- space, the names of the data inputs, each once, in any order. Each further line is a row: a hexadecimal value for each name, in that
--- order, with one space between. Of several faults the one of the first line counts, and within a line the first in order of the kinds.
+-- order, with one space between. Of several faults the one of the first line counts. Within a line the kinds count in their order, but for
+-- names, and for values, where the leftmost that is bad counts.
 use Rattle.std.specs.Prelude.{◌≡◌, ℕ, zero, suc, ◌+◌, ◌*◌, ◌^◌, ◌==◌, Bool, false, not, ◌&&◌, if◌then◌else◌, nat_lt, nat_le, List, [], ◌∷◌, ◌++◌, length, map, drop, fold, bytes_eq, codes, Option, Some, None, unwrap_or, slice_get, slice_index_or}
 use Rattle.std.specs.List.{slice_split, list_all, list_any}
 use Rattle.std.specs.Str.Lines.{strip_carriage_return}
@@ -78,7 +79,7 @@ names_fault inputs ws =
 abbrev pub names_of : List ℕ → List (List ℕ)
 names_of line = drop 1 (words (strip_carriage_return line))
 
--- the width of the input of a name
+-- the width of the input of a name; 0 where there is none
 abbrev pub width_of : List Input → List ℕ → ℕ
 width_of [] name = 0
 width_of (i ∷ inputs) name = if bytes_eq i.name name then i.width else width_of inputs name
@@ -87,7 +88,7 @@ width_of (i ∷ inputs) name = if bytes_eq i.name name then i.width else width_o
 abbrev pub widths_of : List Input → List (List ℕ) → List ℕ
 widths_of inputs names = map (λ name. width_of inputs name) names
 
--- where a name first stands among names, from 0
+-- where a name first stands among names, from 0; their number where it doesn't
 abbrev pub place_of : List (List ℕ) → List ℕ → ℕ
 place_of [] name = 0
 place_of (n ∷ names) name = if bytes_eq n name then 0 else suc (place_of names name)
@@ -123,7 +124,7 @@ bad_value (width ∷ widths) (value ∷ values) = or_else (value_fault width val
 abbrev pub row_fault : List ℕ → List (List ℕ) → Option RefusalKind
 row_fault widths values = if length values == length widths then bad_value widths values else Some k.WrongCount
 
--- the numbers of values, in order of their places
+-- the numbers of values, in order of their places; a value that isn't there has no digits, and is 0
 abbrev pub numbers_at : List (List ℕ) → List ℕ → List ℕ
 numbers_at values places = map (λ place. number_of (slice_index_or values place [])) places
 
@@ -133,7 +134,7 @@ row_of inputs names line = numbers_at (values_of (strip_carriage_return line)) (
 
 -- ---- the first refusal
 
--- the fault of a line that isn't too long, by its number from 0
+-- the fault of a line that isn't too long, without the CR at its end, by its number from 0
 abbrev pub content_fault : List Input → List (List ℕ) → ℕ → List ℕ → Option RefusalKind
 content_fault inputs names zero line = if bytes_eq line (codes "stimulus 1") then None else Some k.BadHeader
 content_fault inputs names (suc zero) line = names_fault inputs (words line)
@@ -161,7 +162,7 @@ first_refusal fault n [] = None
 first_refusal fault n (tail ∷ []) = refusal_at n (tail_fault n tail) None
 first_refusal fault n (line ∷ next ∷ more) = refusal_at n (fault n line) (first_refusal fault (suc n) (next ∷ more))
 
--- the rows of the pieces: of each line from line 3 on
+-- the rows of pieces: of each but the last, which is no line
 abbrev pub rows_of : List Input → List (List ℕ) → List (List ℕ) → List (List ℕ)
 rows_of inputs names [] = []
 rows_of inputs names (tail ∷ []) = []
@@ -188,6 +189,6 @@ abbrev pub IsOpen : Reading → Type 0
 IsOpen (rows rs) = Unit {0}
 IsOpen (refused r) = r.kind ≡ k.Truncated
 
--- bytes that further bytes may make a stimulus: Stimulus text accepts them, or refuses them with nothing but Truncated
+-- bytes that are accepted, or refused with nothing but Truncated: it isn't asked whether any further bytes would be accepted
 abbrev pub MayGoOn : List Input → List ℕ → Type 0
 MayGoOn inputs bytes = IsOpen (stimulus inputs bytes)
