@@ -1,5 +1,5 @@
 -- Worked examples of designs: a carry that ripples through parts, a loop, and a memory with two writes in one cycle.
-use Rattle.std.proofs.Common.{◌≡◌, refl, ℕ, zero, suc, ◌-◌, ◌<◌, ◌≤◌, true, false, List, [], ◌∷◌, slice_index, slice_index_or, subst, arith}
+use Rattle.std.proofs.Common.{◌≡◌, refl, ℕ, zero, suc, ◌-◌, ◌<◌, ◌≤◌, true, false, [], ◌∷◌, slice_index, slice_index_or, subst, arith}
 use Rattle.std.specs.Prelude.{Some, None}
 use Rattle.std.specs.Fmt.{digits}
 use Rattle.bit_ops.specs.declared.operator.Binary.TheVariants as two

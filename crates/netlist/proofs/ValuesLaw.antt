@@ -1,5 +1,5 @@
 -- The values that are computed one after another are those that each node has over all values.
-use Rattle.std.proofs.Common.{◌≡◌, ℕ, zero, suc, ◌+◌, ◌<◌, ◌≤◌, List, [], ◌∷◌, ◌++◌, length, take, refl, sym, ap, ◌∙◌, subst, arith, append-nil, append_assoc}
+use Rattle.std.proofs.Common.{◌≡◌, ℕ, zero, suc, ◌+◌, ◌<◌, List, [], ◌∷◌, ◌++◌, length, take, refl, sym, ap, ◌∙◌, subst, arith, append-nil, append_assoc}
 use Rattle.std.specs.Prelude.{Option, None, Some, slice_get, slice_index, IsSomeAnd}
 use Rattle.std.proofs.Math.Seq.{get_or-append_seam}
 use Rattle.std.proofs.lemmas.List.{get_or_append_left, length_push, length-take-le}
@@ -16,7 +16,7 @@ use Rattle.netlist.specs.declared.node.Operation.TheVariants as o
 
 -- ---- an operation reads values of lower nodes alone
 
-abbrev Reads : ℕ → Operation → Type 0
+abbrev pub Reads : ℕ → Operation → Type 0
 Reads n (o.Constant value) = Unit {0}
 Reads n (o.Bits range) = Unit {0}
 Reads n (o.Word memory index) = index.node < n
@@ -94,17 +94,17 @@ value_kept f v done more w (o.Keep a b) r = stays done more a r.0
 -- ---- one value after another
 
 -- the nodes that are left read lower ones, so many standing before them
-abbrev AllRead : ℕ → List Node → Type 0
+abbrev pub AllRead : ℕ → List Node → Type 0
 AllRead d xs = (k : ℕ) (x : Node) → slice_get xs k ≡ Some x → Reads (d + k) x.operation
 
 -- these are the values of the nodes that are left
 abbrev Hold : Flat → Values → ℕ → List ℕ → List Node → Type 0
 Hold f v d vs xs = (k : ℕ) (x : Node) → slice_get xs k ≡ Some x → slice_index vs (d + k) ≡ node_value f v vs x
 
-read_first : (d : ℕ) (x : Node) (xs : List Node) → AllRead d (x ∷ xs) → Reads d x.operation
+pub read_first : (d : ℕ) (x : Node) (xs : List Node) → AllRead d (x ∷ xs) → Reads d x.operation
 read_first d x xs r = let e : d + 0 ≡ d = omega arith in subst (λ q. Reads q x.operation) e (r 0 x refl)
 
-read_rest : (done : List ℕ) (n : ℕ) (x : Node) (xs : List Node) → AllRead (length done) (x ∷ xs)
+pub read_rest : {X : Type 0} (done : List X) (n : X) (x : Node) (xs : List Node) → AllRead (length done) (x ∷ xs)
     → AllRead (length (done ++ n ∷ [])) xs
 read_rest done n x xs r k y at =
     let e : length done + suc k ≡ length (done ++ n ∷ []) + k = omega (arith, length_push done n) in
@@ -174,7 +174,7 @@ computed f v done (n ∷ more) (x ∷ xs) r h l =
 
 -- ---- of a well-formed design
 
-all_read : (f : Flat) → IsWellFormed f → AllRead 0 f.nodes
+pub all_read : (f : Flat) → IsWellFormed f → AllRead 0 f.nodes
 all_read f w k x at =
     let there : k < length f.nodes = slice_get_within f.nodes k x at in
     let fits : NodeFits f.signals f.memories f.nodes k x =

@@ -1,7 +1,10 @@
 -- What follows from well-formedness. This project's own.
-use Rattle.std.specs.Prelude.{◌≡◌, ℕ, ◌+◌, ◌<◌, ◌≤◌, List, length, slice_get, slice_index, slice_index_or, Some}
+use Rattle.std.specs.Prelude.{◌≡◌, ℕ, ◌+◌, ◌<◌, ◌≤◌, Bool, false, List, [], length, slice_get, slice_index, slice_index_or, Some}
 use Rattle.netlist.specs.Design.{Flat}
+use Rattle.netlist.specs.Graph.{operands, node_reads, nodes_read}
 use Rattle.netlist.specs.Fits.{IsWellFormed}
+use Rattle.netlist.specs.Order.{IsOrder, flat_val}
+use Rattle.netlist.specs.Run.{State, FlatSettles}
 use Rattle.netlist.specs.Values.{Values, node_value, node_values}
 use Rattle.netlist.specs.declared.node.Node.{Node}
 use Rattle.netlist.specs.declared.design.Range.{Range}
@@ -34,3 +37,29 @@ pub record AreValues (f : Flat) (v : Values) (xs : List ℕ) : Type 0 where
 pub record ValuesLaw : Type 0 where
   pub are : (f : Flat) (v : Values) → IsWellFormed f → AreValues f v (node_values f v)
   pub alone : (f : Flat) (v : Values) (xs : List ℕ) → IsWellFormed f → AreValues f v xs → xs ≡ node_values f v
+
+-- one answer for each node: that of its operation over these answers themselves
+pub record AreReads (f : Flat) (q : Range) (rs : List Bool) : Type 0 where
+  pub count : length rs ≡ length f.nodes
+  pub each : (k : ℕ) (x : Node) → slice_get f.nodes k ≡ Some x → slice_index_or rs k false ≡ node_reads q rs x
+
+-- A law: a node of a well-formed design reads bits of a range exactly where its operation does, or a node that it
+-- reads.
+abbrev pub ReadsLaw : Type 0
+ReadsLaw = (f : Flat) (q : Range) → IsWellFormed f → AreReads f q (nodes_read q [] f.nodes)
+
+-- A law: a node of a well-formed design reads lower nodes alone.
+abbrev pub OperandsLaw : Type 0
+OperandsLaw = (f : Flat) (k : ℕ) (x : Node) (i : ℕ) → IsWellFormed f → slice_get f.nodes k ≡ Some x
+    → i < length (operands x.operation) → slice_index (operands x.operation) i < k
+
+-- v settles with a state and a row, and nothing else does
+pub record SettlesAlone (f : Flat) (s : State) (row : List ℕ) (v : Values) : Type 0 where
+  pub settles : FlatSettles f s row v
+  pub alone : (u : Values) → FlatSettles f s row u → u ≡ v
+
+-- A law: where a well-formed design has an order, one valuation settles with each state and each row, and it is that of
+-- the order.
+abbrev pub SettlesOnce : Type 0
+SettlesOnce = (f : Flat) (order : List ℕ) (s : State) (row : List ℕ) → IsWellFormed f → IsOrder f order
+    → SettlesAlone f s row (flat_val f order s row)

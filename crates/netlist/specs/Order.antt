@@ -23,8 +23,8 @@ pub record IsNearest (f : Flat) (p q s n : ℕ) : Type 0 where
   pub fewest : (r m : ℕ) → ReadsPart f p r → ReadsIn f m r s → n ≤ m
   pub least : (r : ℕ) → ReadsPart f p r → ReadsIn f n r s → q ≤ r
 
--- a list of parts that begins with the least one that reads itself, directly or through others; each next one, the
--- first behind the last, is the nearest to the first
+-- A list of parts that begins with the least one that reads itself, directly or through others. Each next one, and the
+-- first after the last, is the nearest to the first of those that the one before it reads.
 pub record IsLoop (f : Flat) (parts : List ℕ) : Type 0 where
   pub some : 0 < length parts
   pub first : (p n : ℕ) → ReadsIn f (suc n) p p → slice_index parts 0 ≤ p

@@ -11,3 +11,16 @@ pub fn parts_law()
 pub fn values_law()
     ensures { laws.ValuesLaw }
 {}
+
+/// A node of a well-formed design reads lower nodes alone, and it reads bits of a range exactly where its operation
+/// does, or a node that it reads.
+pub fn reads_law()
+    ensures reads { laws.ReadsLaw }
+    ensures lower { laws.OperandsLaw }
+{}
+
+/// Where a well-formed design has an order, one valuation settles with each state and each row, and it is that of the
+/// order.
+pub fn settles_law()
+    ensures { laws.SettlesOnce }
+{}

@@ -18,11 +18,12 @@ use Rattle.vl_read.proofs.Pieces.{Productive, Nothing, took_nothing, link_any, s
 use Rattle.vl_read.proofs.Leads.{Leads, leads_on, leads_less, leads_as, leads_after, leads_where}
 use Rattle.vl_read.proofs.TokenRules.{somewhere, link_kind_first}
 use Rattle.vl_expr.specs.Ends.{EndsList}
-use Rattle.vl_statement.specs.Readers.{NoColon, grouped_at, grouped_depths}
-use Rattle.vl_statement.specs.Parts.{after, after_depths, PlainArm, labels, default, arm_at, arm_depths, with_arm, closed_at, closed_depths}
-use Rattle.vl_statement.proofs.Steps.{Joint}
-use Rattle.vl_statement.proofs.PartRules.{colon_at}
-use Rattle.vl_statement.proofs.Heads.{IsHead, tail_at, head_of, some_stmt, stmt_not, expr_key}
+use Rattle.vl_simple.specs.Readers.{NoColon, grouped_at, grouped_depths}
+use Rattle.vl_simple.specs.Simple.{after, after_depths}
+use Rattle.vl_statement.specs.Parts.{PlainArm, labels, default, arm_at, arm_depths, with_arm, closed_at, closed_depths}
+use Rattle.vl_simple.proofs.Steps.{Joint}
+use Rattle.vl_simple.proofs.PartRules.{colon_at}
+use Rattle.vl_simple.proofs.Heads.{IsHead, tail_at, head_of, some_stmt, stmt_not, expr_key}
 
 exprs_key : (es : Exprs) (p : Place) (v : _) (us z : List Placed) → exprs_at es (at (k.key v) p ∷ us) z → ⊥
 exprs_key no_expr p v us z h = absurd h

@@ -14,10 +14,11 @@ use Rattle.vl_read.specs.Tokens.{Not}
 use Rattle.vl_read.proofs.Pieces.{Nothing, took_nothing, link_any}
 use Rattle.vl_read.proofs.Leads.{Leads, leads_on, leads_less, leads_as, leads_after, leads_where}
 use Rattle.vl_read.proofs.TokenRules.{somewhere}
-use Rattle.vl_statement.specs.Readers.{NoColon}
-use Rattle.vl_statement.specs.Parts.{after, after_depths, ended_at, ended_depths}
-use Rattle.vl_statement.proofs.Steps.{Joint}
-use Rattle.vl_statement.proofs.Heads.{IsHead, tail_at, head_of, stmt_not, some_stmt}
+use Rattle.vl_simple.specs.Readers.{NoColon}
+use Rattle.vl_simple.specs.Simple.{after, after_depths}
+use Rattle.vl_statement.specs.Parts.{ended_at, ended_depths}
+use Rattle.vl_simple.proofs.Steps.{Joint}
+use Rattle.vl_simple.proofs.Heads.{IsHead, tail_at, head_of, stmt_not, some_stmt}
 
 -- ---- statements and `end`
 

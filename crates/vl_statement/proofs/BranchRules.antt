@@ -17,10 +17,11 @@ use Rattle.vl_read.specs.Tokens.{Not}
 use Rattle.vl_read.proofs.Pieces.{link_any}
 use Rattle.vl_read.proofs.Leads.{Leads, leads_as, leads_after, leads_same, front_more, front_some, front_all}
 use Rattle.vl_read.proofs.TokenRules.{somewhere}
-use Rattle.vl_statement.specs.Readers.{grouped_at, grouped_depths}
-use Rattle.vl_statement.specs.Parts.{after, after_depths, rest_of, branch_at, branch_depths, others_at, others_depths}
-use Rattle.vl_statement.proofs.Steps.{Joint}
-use Rattle.vl_statement.proofs.Heads.{IsHead, tail_at, head_of, some_stmt, if_conditional, not_if}
+use Rattle.vl_simple.specs.Readers.{grouped_at, grouped_depths}
+use Rattle.vl_simple.specs.Simple.{after, after_depths, rest_of}
+use Rattle.vl_statement.specs.Parts.{branch_at, branch_depths, others_at, others_depths}
+use Rattle.vl_simple.proofs.Steps.{Joint}
+use Rattle.vl_simple.proofs.Heads.{IsHead, tail_at, head_of, some_stmt, if_conditional, not_if}
 
 abbrev pub Plain : Type 0
 Plain = Place × Expr × Stmt

@@ -1,9 +1,5 @@
 pub mod TargetRules
-mod Steps
-mod PartRules
-mod Heads
-mod SimpleRules
-mod TaskRules
+mod LoopRules
 mod BlockRules
 mod BranchRules
 mod ArmRules

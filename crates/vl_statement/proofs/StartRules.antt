@@ -19,14 +19,15 @@ use Rattle.vl_read.proofs.Pieces.{Nothing, took_nothing, sunk_here}
 use Rattle.vl_read.proofs.Leads.{Leads, leads_on, leads_less, leads_after, leads_same, leads_where}
 use Rattle.vl_read.proofs.TokenRules.{somewhere}
 use Rattle.vl_expr.proofs.Common.{some_number, zero_literal}
-use Rattle.vl_statement.specs.declared.start.Start.{Start}
-use Rattle.vl_statement.specs.declared.start.Start.TheVariants as start
-use Rattle.vl_statement.specs.Starts.{IsStart, aims}
-use Rattle.vl_statement.specs.Parts.{after, after_depths, rest_of, assign_at}
-use Rattle.vl_statement.proofs.Steps.{both_some}
-use Rattle.vl_statement.proofs.PartRules.{some_name, some_kind, some_grouped, some_loop}
-use Rattle.vl_statement.proofs.Heads.{head_of, some_stmt, first_depth, stmt_end}
-use Rattle.vl_statement.proofs.TaskRules.{f2_some, make_file, file_into}
+use Rattle.vl_simple.specs.declared.start.Start.{Start}
+use Rattle.vl_simple.specs.declared.start.Start.TheVariants as start
+use Rattle.vl_simple.specs.Starts.{IsStart, aims}
+use Rattle.vl_simple.specs.Simple.{after, after_depths, rest_of, assign_at}
+use Rattle.vl_simple.proofs.Steps.{both_some}
+use Rattle.vl_simple.proofs.PartRules.{some_name, some_kind, some_grouped}
+use Rattle.vl_statement.proofs.LoopRules.{some_loop}
+use Rattle.vl_simple.proofs.Heads.{head_of, some_stmt, first_depth, stmt_end}
+use Rattle.vl_simple.proofs.TaskRules.{f2_some, make_file, file_into}
 use Rattle.vl_statement.proofs.ArmRules.{arms_some, make_select, select_into}
 
 -- ---- some statement that begins with a token

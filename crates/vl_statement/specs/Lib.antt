@@ -1,4 +1,3 @@
 pub mod Targets
 pub mod Readers
-pub mod Starts
 pub mod Parts

@@ -4,11 +4,11 @@ ghost use Rattle.std.specs.Prelude.{◌≤◌, ◌<◌, IfOk, length};
 ghost use Rattle.dt_core.specs.declared.limits.TheConstants.{MAX_DEPTH};
 ghost use Rattle.vl_statement.specs.Readers.{ReadsLoop};
 
-use crate::parts::read_valued;
 use std::alloc::Global;
 use vl_expr::read_expr;
 use vl_read::cursor::Cursor;
 use vl_read::fault::Fault;
+use vl_simple::read_valued;
 use vl_tree::statement::Loop;
 use vl_tree::token::Mark;
 

@@ -6,12 +6,10 @@ ghost use Rattle.vl_tree.specs.declared.token.Key.TheVariants as w;
 ghost use Rattle.vl_tree.specs.SyntaxView as view;
 ghost use Rattle.vl_tree.specs.Statements.{case_word};
 ghost use Rattle.vl_statement.specs.Readers.{ReadsStatement};
-ghost use Rattle.vl_statement.specs.Parts.{ReadsAfter, ReadsBranch, ReadsArm};
+ghost use Rattle.vl_simple.specs.Simple.{ReadsAfter};
+ghost use Rattle.vl_statement.specs.Parts.{ReadsBranch, ReadsArm};
 
 use crate::header::read_loop;
-use crate::parts::{pass_colon, read_grouped, read_label};
-use crate::simple::{read_assign, read_fatal, read_file_print, read_print, read_stop};
-use crate::start::{Start, start_of};
 use dt_core::limits::MAX_DEPTH;
 use dt_core::place::Place;
 use sqlite_items::{Boxed, Items};
@@ -19,6 +17,10 @@ use std::alloc::Global;
 use vl_expr::read_list;
 use vl_read::cursor::Cursor;
 use vl_read::fault::Fault;
+use vl_simple::{
+    Start, pass_colon, read_assign, read_fatal, read_file_print, read_grouped, read_label,
+    read_print, read_stop, start_of,
+};
 use vl_tree::statement::{Arm, Branch, Stmt};
 use vl_tree::token::{Key, Mark};
 

@@ -3,8 +3,8 @@ use Rattle.std.proofs.lemmas.Result.{err_from_is_err_and}
 use Rattle.vl_tree.specs.declared.token.Mark.TheVariants as m
 use Rattle.vl_tree.specs.Token as k
 use Rattle.vl_read.proofs.TokenRules.{took_kind}
-use Rattle.vl_statement.proofs.Steps.{fails_at, after_part}
-use Rattle.vl_statement.proofs.PartRules as rule
+use Rattle.vl_simple.proofs.Steps.{fails_at, after_part}
+use Rattle.vl_statement.proofs.LoopRules as rule
 use Rattle.vl_statement.proofs.header.read_loop.Goals as goal
 
 pub returns-in_err-rest-clause-reads : goal.returns-in_err-rest-clause-reads

@@ -11,11 +11,11 @@ use Rattle.vl_tree.specs.SyntaxView as plain
 use Rattle.vl_tree.specs.Statements.{case_word, print_name}
 use Rattle.vl_read.proofs.Leads.{leads_on, leads_reads}
 use Rattle.vl_read.proofs.TokenRules.{took_kind}
-use Rattle.vl_statement.specs.Starts.{IsStart}
+use Rattle.vl_simple.specs.Starts.{IsStart}
 use Rattle.vl_statement.specs.Parts.{arm_of, with_arm}
-use Rattle.vl_statement.proofs.Steps.{fails_at, after_part}
-use Rattle.vl_statement.proofs.PartRules as part
-use Rattle.vl_statement.proofs.Heads as head
+use Rattle.vl_simple.proofs.Steps.{fails_at, after_part}
+use Rattle.vl_simple.proofs.PartRules as part
+use Rattle.vl_simple.proofs.Heads as head
 use Rattle.vl_statement.proofs.StartRules as rule
 use Rattle.vl_statement.proofs.BlockRules as rule_block
 use Rattle.vl_statement.proofs.BranchRules as rule_branch

@@ -8,7 +8,8 @@ use Rattle.vl_tree.specs.Statements.{case_word, NoElse}
 use Rattle.std.specs.Option.{option_map}
 use Rattle.vl_read.specs.declared.fault.Fault.{Fault}
 use Rattle.vl_read.specs.Reading.{Took, Refuses, Any}
-use Rattle.vl_statement.specs.Parts.{after, after_depths, ended_at, ended_depths, stmts_on, others_at, others_depths, branches_on, closed_at, closed_depths, arms_on}
+use Rattle.vl_simple.specs.Simple.{after, after_depths}
+use Rattle.vl_statement.specs.Parts.{ended_at, ended_depths, stmts_on, others_at, others_depths, branches_on, closed_at, closed_depths, arms_on}
 use Rattle.vl_statement.proofs.statement.+statement.Given as goal
 
 abbrev pub decreases-read_statement : goal.decreases-read_statement

@@ -1,0 +1,9 @@
+//! Tests of `comb_order`: small designs with their order or loop, and large ones.
+//!
+//! Below: `comb_order`, `netlist`, `dt_core`. Above: nothing.
+#![tactic(auto)]
+
+#[cfg(test)]
+mod draft;
+#[cfg(test)]
+mod tests;

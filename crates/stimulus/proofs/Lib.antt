@@ -1,0 +1,9 @@
+pub mod LineLaws
+pub mod DigitLaws
+pub mod ValueLaws
+pub mod TurnLaws
+pub mod StandLaws
+pub mod FaultLaws
+pub mod GluedLaws
+pub mod FitLaws
+mod StimulusExamples

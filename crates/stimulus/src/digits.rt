@@ -1,0 +1,203 @@
+//! Hexadecimal digits and the values of a row.
+
+ghost use Rattle.std.specs.Prelude.{◌≡◌, ◌+◌, ◌*◌, ◌^◌, ◌<◌, ◌≤◌, ℕ, length, nat_le, nat_lt};
+ghost use Rattle.stimulus.specs.Calls.Digits.{EndsPiece, IsDigitRun, IsNumber, IsRun, ReadsValue};
+ghost use Rattle.stimulus.specs.Calls.Digits.{ReadsValues, digit_code, is_space, words_in};
+ghost use Rattle.stimulus.specs.Stimulus.{values_of, words};
+ghost use Rattle.std.specs.List.{All, count_by};
+
+use crate::refusal::RefusalKind;
+use dt_core::limits::MAX_WIDTH;
+
+// The value of each byte that is a hexadecimal digit, and 255 for the others.
+static DIGITS: [u8; 256] = [
+    255, 255, 255, 255, 255, 255, 255, 255, 255, 255, 255, 255, 255, 255, 255, 255, 255, 255, 255,
+    255, 255, 255, 255, 255, 255, 255, 255, 255, 255, 255, 255, 255, 255, 255, 255, 255, 255, 255,
+    255, 255, 255, 255, 255, 255, 255, 255, 255, 255, 0, 1, 2, 3, 4, 5, 6, 7, 8, 9, 255, 255, 255,
+    255, 255, 255, 255, 10, 11, 12, 13, 14, 15, 255, 255, 255, 255, 255, 255, 255, 255, 255, 255,
+    255, 255, 255, 255, 255, 255, 255, 255, 255, 255, 255, 255, 255, 255, 255, 255, 10, 11, 12, 13,
+    14, 15, 255, 255, 255, 255, 255, 255, 255, 255, 255, 255, 255, 255, 255, 255, 255, 255, 255,
+    255, 255, 255, 255, 255, 255, 255, 255, 255, 255, 255, 255, 255, 255, 255, 255, 255, 255, 255,
+    255, 255, 255, 255, 255, 255, 255, 255, 255, 255, 255, 255, 255, 255, 255, 255, 255, 255, 255,
+    255, 255, 255, 255, 255, 255, 255, 255, 255, 255, 255, 255, 255, 255, 255, 255, 255, 255, 255,
+    255, 255, 255, 255, 255, 255, 255, 255, 255, 255, 255, 255, 255, 255, 255, 255, 255, 255, 255,
+    255, 255, 255, 255, 255, 255, 255, 255, 255, 255, 255, 255, 255, 255, 255, 255, 255, 255, 255,
+    255, 255, 255, 255, 255, 255, 255, 255, 255, 255, 255, 255, 255, 255, 255, 255, 255, 255, 255,
+    255, 255, 255, 255, 255, 255, 255, 255, 255, 255, 255, 255, 255, 255, 255, 255, 255, 255, 255,
+    255, 255, 255,
+];
+
+// The least number that has no room for a further digit.
+const FULL: u128 = 1 << 124;
+
+/// The number of the digits so far, or that it has more than 128 bits.
+#[derive(Clone, Copy)]
+pub(crate) struct Number {
+    value: u128,
+    over: bool,
+}
+
+/// The digits at the head of bytes: how many, and their number.
+#[derive(Clone, Copy)]
+pub(crate) struct Run {
+    count: usize,
+    number: Number,
+}
+
+// The value of a hexadecimal digit, or 255.
+fn digit_of(byte: u8) -> u8
+    ensures { result ≡ digit_code byte }
+{
+    let digits = DIGITS.as_slice();
+    digits[byte as usize]
+}
+
+impl Number {
+    // The number with one digit more.
+    fn with_digit(self, digit: u8) -> Number
+        requires { digit < 16 }
+        ensures { (n : ℕ) → IsNumber self n → IsNumber result (16 * n + digit) }
+    {
+        if self.over || self.value >= FULL {
+            return Number {
+                value: FULL,
+                over: true,
+            };
+        }
+        Number {
+            value: self.value * 16 + digit as u128,
+            over: false,
+        }
+    }
+
+    // Whether it is 2^width or more.
+    fn is_too_large(self, width: u32) -> bool
+        requires { width ≤ MAX_WIDTH }
+        ensures { (n : ℕ) → IsNumber self n → result ≡ nat_le (2 ^ width) n }
+    {
+        self.over || (width < MAX_WIDTH && self.value >> width != 0)
+    }
+}
+
+impl Run {
+    // Whether there is a digit.
+    fn is_value(self) -> bool
+        ensures { result ≡ nat_lt 0 self.count }
+    {
+        self.count > 0
+    }
+}
+
+// The digits at the head of the bytes.
+fn read_digits(bytes: &[u8]) -> Run
+    ensures { IsRun bytes.now result }
+{
+    let mut number = Number {
+        value: 0,
+        over: false,
+    };
+    for (i, byte) in bytes.iter().enumerate() {
+        let digit = digit_of(*byte);
+        if digit > 15 {
+            return Run { count: i, number };
+        }
+        number = number.with_digit(digit);
+    }
+    Run {
+        count: bytes.len(),
+        number,
+    }
+}
+
+// What is left after a piece that begins with so many digits and no more: None where the piece ends the bytes.
+fn after_digits(bytes: &[u8], count: usize) -> Result<Option<&[u8]>, RefusalKind>
+    requires digits { IsDigitRun bytes.now count }
+    ensures { EndsPiece bytes.now count result }
+{
+    match bytes.get(count) {
+        None => Ok(None),
+        Some(b' ') => Ok(Some(&bytes[count + 1..])),
+        Some(_) => Err(RefusalKind::BadValue),
+    }
+}
+
+// The value of this width at the head of the bytes, and what is left after it, if a space follows it.
+fn read_value(bytes: &[u8], width: u32) -> Result<(u128, Option<&[u8]>), RefusalKind>
+    requires { width ≤ MAX_WIDTH }
+    ensures { ReadsValue width bytes.now result }
+{
+    let run = read_digits(bytes);
+    if !run.is_value() {
+        return Err(RefusalKind::BadValue);
+    }
+    match after_digits(bytes, run.count) {
+        Err(kind) => Err(kind),
+        Ok(rest) => {
+            if run.number.is_too_large(width) {
+                return Err(RefusalKind::TooLarge);
+            }
+            Ok((run.number.value, rest))
+        }
+    }
+}
+
+// The number of values of a row.
+fn count_values(line: &[u8]) -> usize
+    ensures { result ≡ length (values_of line.now) }
+{
+    if line.is_empty() {
+        return 0;
+    }
+    count_spaces(line) + 1
+}
+
+// The number of spaces.
+fn count_spaces(bytes: &[u8]) -> usize
+    ensures count { result ≡ count_by is_space bytes.now }
+    ensures few { result ≤ length bytes.now }
+{
+    let mut count = 0;
+    for byte in bytes {
+        if *byte == b' ' {
+            count += 1;
+        }
+    }
+    count
+}
+
+// The line, where it isn't empty.
+fn some_line(line: &[u8]) -> Option<&[u8]>
+    ensures { words_in result ≡ values_of line.now }
+{
+    if line.is_empty() { None } else { Some(line) }
+}
+
+/// Reads the values of a row, in order of their places: one for each width, or the fault.
+pub(crate) fn read_values(
+    line: &[u8],
+    widths: &[u32],
+    values: &mut [u128],
+) -> Result<(), RefusalKind>
+    requires size { length values.old ≡ length widths.now }
+    requires widths { All (λ w. w ≤ MAX_WIDTH) widths.now }
+    ensures size { length values.new ≡ length values.old }
+    ensures reads { ReadsValues widths.now line.now values.new result }
+{
+    if count_values(line) != widths.len() {
+        return Err(RefusalKind::WrongCount);
+    }
+    let mut rest = some_line(line);
+    for (place, width) in widths.iter().enumerate() {
+        match rest {
+            None => return Err(RefusalKind::WrongCount),
+            Some(bytes) => match read_value(bytes, *width) {
+                Ok((number, after)) => {
+                    values[place] = number;
+                    rest = after;
+                }
+                Err(kind) => return Err(kind),
+            },
+        }
+    }
+    Ok(())
+}

@@ -1,0 +1,4 @@
+pub mod Parts
+pub mod RangeRules
+pub mod NamedRules
+pub mod EventRules

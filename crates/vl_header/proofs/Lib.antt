@@ -1,0 +1,2 @@
+pub mod BindRules
+pub mod HeaderRules

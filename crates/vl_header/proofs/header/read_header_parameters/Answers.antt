@@ -1,0 +1,29 @@
+use Rattle.std.proofs.lemmas.Result.{err_from_is_err_and}
+use Rattle.vl_tree.specs.declared.token.Mark.TheVariants as m
+use Rattle.vl_tree.specs.Token as k
+use Rattle.vl_declaration.proofs.Parts.{first, next, passed, passes}
+use Rattle.vl_header.proofs.HeaderRules as rule
+use Rattle.vl_header.proofs.header.read_header_parameters.Goals as goal
+
+pub returns-in-None-clause-reads : goal.returns-in-None-clause-reads
+returns-in-None-clause-reads c =
+    rw c.new.ensures (rule.parameters_none c.args.depth _ c.in-None.ensures.reads)
+
+pub returns-in_err-inner-in-Some-clause-reads : goal.returns-in_err-inner-in-Some-clause-reads
+returns-in_err-inner-in-Some-clause-reads c =
+    let p = err_from_is_err_and c.from_residual.result c.from_residual.ensures.1 in
+    rw (p.1, p.2) (first (passed c.args.depth (k.mark m.OpenParen)) (rule.parameters_1 c.args.depth) (rule.parameters_j0 c.args.depth) (rule.hash_part c.args.depth _ c.requires.low _ _ c.in-Some.ensures.reads) c.in_err-inner-in-Some.field-0.0 (c.in_err-inner-in-Some.ensures.reads (c.args.depth)))
+
+pub returns-in_err-all-in-Some-clause-reads : goal.returns-in_err-all-in-Some-clause-reads
+returns-in_err-all-in-Some-clause-reads c =
+    let p = err_from_is_err_and c.from_residual-in_err-all-in-Some.result c.from_residual-in_err-all-in-Some.ensures.1 in
+    rw (p.1, p.2) (first (rule.header_list c.args.depth) (rule.parameters_2 c.args.depth) (rule.parameters_j1 c.args.depth) (next (passed c.args.depth (k.mark m.OpenParen)) (rule.parameters_1 c.args.depth) (rule.parameters_j0 c.args.depth) (rule.hash_part c.args.depth _ c.requires.low _ _ c.in-Some.ensures.reads) _ _ (passes (c.args.depth) (k.mark m.OpenParen) (c.requires.low) _ _ c.in_ok-inner-in-Some.ensures.reads)) c.in_err-all-in-Some.field-0.0 c.in_err-all-in-Some.ensures.reads)
+
+pub returns-in_err-rest-in-Some-clause-reads : goal.returns-in_err-rest-in-Some-clause-reads
+returns-in_err-rest-in-Some-clause-reads c =
+    let p = err_from_is_err_and c.from_residual-in_err-rest-in-Some.result c.from_residual-in_err-rest-in-Some.ensures.1 in
+    rw (p.1, p.2) ((next (rule.header_list c.args.depth) (rule.parameters_2 c.args.depth) (rule.parameters_j1 c.args.depth) (next (passed c.args.depth (k.mark m.OpenParen)) (rule.parameters_1 c.args.depth) (rule.parameters_j0 c.args.depth) (rule.hash_part c.args.depth _ c.requires.low _ _ c.in-Some.ensures.reads) _ _ (passes (c.args.depth) (k.mark m.OpenParen) (c.requires.low) _ _ c.in_ok-inner-in-Some.ensures.reads)) _ _ c.in_ok-all-in-Some.ensures.reads).fails c.in_err-rest-in-Some.field-0.0 (c.in_err-rest-in-Some.ensures.reads (c.args.depth)))
+
+pub returns-in_ok-rest-in-Some-clause-reads : goal.returns-in_ok-rest-in-Some-clause-reads
+returns-in_ok-rest-in-Some-clause-reads c =
+    ((next (rule.header_list c.args.depth) (rule.parameters_2 c.args.depth) (rule.parameters_j1 c.args.depth) (next (passed c.args.depth (k.mark m.OpenParen)) (rule.parameters_1 c.args.depth) (rule.parameters_j0 c.args.depth) (rule.hash_part c.args.depth _ c.requires.low _ _ c.in-Some.ensures.reads) _ _ (passes (c.args.depth) (k.mark m.OpenParen) (c.requires.low) _ _ c.in_ok-inner-in-Some.ensures.reads)) _ _ c.in_ok-all-in-Some.ensures.reads).took _ _ (passes (c.args.depth) (k.mark m.CloseParen) (c.requires.low) _ _ c.in_ok-rest-in-Some.ensures.reads))

@@ -1,0 +1,4 @@
+pub mod Targets
+pub mod Readers
+pub mod Starts
+pub mod Simple
