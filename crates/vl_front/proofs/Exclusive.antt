@@ -4,27 +4,25 @@ use Rattle.vl_tree.specs.declared.fault.FaultKind.TheVariants as k
 use Rattle.vl_tree.specs.Token.{Tokens}
 use Rattle.vl_tree.specs.Tree.{Module}
 use Rattle.vl_tree.specs.Placed.{placed}
-use Rattle.vl_tree.specs.Modules.{source_at}
-use Rattle.vl_tree.specs.Depth.{source_depths}
-use Rattle.vl_tree.proofs.OneFault.{one_reach, one_deep, not_both, derives_none}
+use Rattle.vl_source.proofs.Refusals.{refusal_law}
 use Rattle.vl_front.specs.Spelled.{Fault, spelled}
 use Rattle.vl_front.specs.FirstFault.{AreSource, tree_fault, HasTreeFault, HasFirst}
 use Rattle.vl_front.specs.OneModule.{IsOneModule}
 use Rattle.vl_front.specs.Laws.{HaveOneFault, SourcesHaveNone}
 
 no_tree_fault : (ts : Tokens) (f : Fault) → AreSource ts → HasTreeFault ts f → ⊥
-no_tree_fault ts f s (n, inl (h, e)) = h.bad.none (s.0, s.1.derives)
-no_tree_fault ts f s (n, inr (h, e)) = derives_none source_at source_depths (placed 0 ts) s.0 n s.1.derives s.1.shallow h
+no_tree_fault ts f s (n, inl (h, e)) = (refusal_law (placed 0 ts)).sound s.0 n s.1 h
+no_tree_fault ts f s (n, inr (h, e)) = (refusal_law (placed 0 ts)).shallow s.0 n s.1 h
 
 one_tree_fault : (ts : Tokens) (f g : Fault) → HasTreeFault ts f → HasTreeFault ts g → f ≡ g
 one_tree_fault ts f g (n, inl (a, d)) (m, inl (b, e)) =
-    d ∙ ap (λ x. tree_fault ts x k.Syntax) (one_reach source_at source_depths (placed 0 ts) n m a.bad.reach b.bad.reach) ∙ sym e
+    d ∙ ap (λ x. tree_fault ts x k.Syntax) ((refusal_law (placed 0 ts)).bad n m a b) ∙ sym e
 one_tree_fault ts f g (n, inl (a, d)) (m, inr (b, e)) =
-    absurd (not_both source_at source_depths (placed 0 ts) m n b a.bad.reach a.shallow)
+    absurd ((refusal_law (placed 0 ts)).apart n m a b)
 one_tree_fault ts f g (n, inr (a, d)) (m, inl (b, e)) =
-    absurd (not_both source_at source_depths (placed 0 ts) n m a b.bad.reach b.shallow)
+    absurd ((refusal_law (placed 0 ts)).apart m n b a)
 one_tree_fault ts f g (n, inr (a, d)) (m, inr (b, e)) =
-    d ∙ ap (λ x. tree_fault ts x k.Deep) (one_deep source_at source_depths (placed 0 ts) n m a b) ∙ sym e
+    d ∙ ap (λ x. tree_fault ts x k.Deep) ((refusal_law (placed 0 ts)).deep n m a b) ∙ sym e
 
 -- a text is spelled of one list of tokens
 one_list : (text : List ℕ) (ts us : Tokens) → spelled text ≡ Ok ts → spelled text ≡ Ok us → ts ≡ us

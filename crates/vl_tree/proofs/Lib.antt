@@ -4,4 +4,3 @@ pub mod SyntaxExamples
 pub mod BadPlaceExample
 pub mod NearestElseExample
 pub mod CounterSource
-pub mod OneFault

@@ -1,0 +1,8 @@
+mod Whole
+mod Views
+mod Heads
+mod ItemRules
+mod BranchRules
+mod StartRules
+mod ModuleRules
+mod Refusals
