@@ -1,0 +1,42 @@
+use Rattle.std.proofs.lemmas.Result.{err_from_is_err_and}
+use Rattle.vl_tree.specs.declared.token.Mark.TheVariants as m
+use Rattle.vl_tree.specs.Token as k
+use Rattle.vl_declaration.proofs.Parts.{passes}
+use Rattle.vl_declared.proofs.DeclaredRules as rule
+use Rattle.vl_declared.proofs.Views as view
+use Rattle.vl_declared.proofs.declared.read_ports.Goals as goal
+
+pub returns-in_err-directed-clause-reads : goal.returns-in_err-directed-clause-reads
+returns-in_err-directed-clause-reads c =
+    let d = c.args.depth in
+    let l0 = rule.ports_whole d _ c.requires.first in
+    let p = err_from_is_err_and c.from_residual.result c.from_residual.ensures.1 in
+    rw (p.1, p.2)
+    (rule.direction_fails rule.names_rule rule.names_first d l0 c.in_err-directed.field-0.0 c.in_err-directed.ensures.reads)
+
+pub returns-in_err-names-clause-reads : goal.returns-in_err-names-clause-reads
+returns-in_err-names-clause-reads c =
+    let d = c.args.depth in
+    let l0 = rule.ports_whole d _ c.requires.first in
+    let l1 = rule.direction_next rule.names_rule rule.names_first d l0 _ _ c.in_ok-directed.ensures.reads in
+    let p = err_from_is_err_and c.from_residual-in_err-names.result c.from_residual-in_err-names.ensures.1 in
+    rw (p.1, p.2)
+    (rule.list_fails rule.names_rule d l1 c.in_err-names.field-0.0 c.in_err-names.ensures.reads)
+
+pub returns-in_err-rest-clause-reads : goal.returns-in_err-rest-clause-reads
+returns-in_err-rest-clause-reads c =
+    let d = c.args.depth in
+    let l0 = rule.ports_whole d _ c.requires.first in
+    let l1 = rule.direction_next rule.names_rule rule.names_first d l0 _ _ c.in_ok-directed.ensures.reads in
+    let l2 = rule.list_next rule.names_rule d l1 _ _ c.in_ok-names.ensures.reads in
+    let p = err_from_is_err_and c.from_residual-in_err-rest.result c.from_residual-in_err-rest.ensures.1 in
+    rw (p.1, p.2) (l2.fails c.in_err-rest.field-0.0 (c.in_err-rest.ensures.reads d))
+
+pub returns-clause-reads : goal.returns-clause-reads
+returns-clause-reads c =
+    let d = c.args.depth in
+    let l0 = rule.ports_whole d _ c.requires.first in
+    let l1 = rule.direction_next rule.names_rule rule.names_first d l0 _ _ c.in_ok-directed.ensures.reads in
+    let l2 = rule.list_next rule.names_rule d l1 _ _ c.in_ok-names.ensures.reads in
+    rw (view.item-directed c.in_ok-directed.directed c.in_ok-names.names)
+    (l2.took _ _ (passes d (k.mark m.Semicolon) c.in_ok-directed.ensures.shallow _ _ c.in_ok-rest.ensures.reads))
