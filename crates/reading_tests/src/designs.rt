@@ -89,10 +89,30 @@ static FAULTS: [(&[u8], u8, u32, FaultKind); 19] = [
     (b"endmodule", 3, 1, FaultKind::Syntax),
     (b"module m;\n\nendmodule\n;", 3, 4, FaultKind::Syntax),
     (b"module m;\nwire\n\n", 3, 2, FaultKind::Syntax),
-    (b"module m(input c);\nalways @(posedge c)\nbegin end\n", 3, 3, FaultKind::Syntax),
-    (b"module m;\nwire a = \n(1;\nwire b = 129'd1; endmodule", 2, 4, FaultKind::TooWide),
-    (b"module m;\nassign a = b\n<= c;\nassign d = e +\n; endmodule", 3, 5, FaultKind::Syntax),
-    (b"module m; initial a = b\n= c; endmodule", 3, 2, FaultKind::Syntax),
+    (
+        b"module m(input c);\nalways @(posedge c)\nbegin end\n",
+        3,
+        3,
+        FaultKind::Syntax,
+    ),
+    (
+        b"module m;\nwire a = \n(1;\nwire b = 129'd1; endmodule",
+        2,
+        4,
+        FaultKind::TooWide,
+    ),
+    (
+        b"module m;\nassign a = b\n<= c;\nassign d = e +\n; endmodule",
+        3,
+        5,
+        FaultKind::Syntax,
+    ),
+    (
+        b"module m; initial a = b\n= c; endmodule",
+        3,
+        2,
+        FaultKind::Syntax,
+    ),
 ];
 
 #[test]
@@ -147,8 +167,14 @@ static TEXTS: [(&[u8], bool); 13] = [
         false,
     ),
     (b"module m; endmodule", false),
-    (b"module m; wire [7:0] a = b ? c : d; endmodule module n; endmodule", false),
-    (b"module m(input c); always @(posedge c) if (c) ; else begin : x end endmodule", false),
+    (
+        b"module m; wire [7:0] a = b ? c : d; endmodule module n; endmodule",
+        false,
+    ),
+    (
+        b"module m(input c); always @(posedge c) if (c) ; else begin : x end endmodule",
+        false,
+    ),
     (b"", false),
 ];
 

@@ -1,7 +1,7 @@
 -- The first static fault of a text, over the phases that are read: 1, its clean text, and 2, the tokens of that (`Spelled`); 3, the source
 -- that the tokens derive (IEEE 1364-2005, annex A, cut down to the profile). A phase looks at a text only where those before have no
 -- fault. The phases' numbers and the places are this project's own.
-use Rattle.std.specs.Prelude.{ℕ, ◌≡◌, ◌-◌, ◌⊎◌, min, List, length, Option, Some, None, Result, Ok, Err, slice_get}
+use Rattle.std.specs.Prelude.{ℕ, ◌≡◌, ◌-◌, ◌⊎◌, min, List, length, Option, Some, None, Ok, Err, slice_get}
 use Rattle.vl_tree.specs.declared.fault.FaultKind.{FaultKind}
 use Rattle.vl_tree.specs.declared.fault.FaultKind.TheVariants as k
 use Rattle.vl_tree.specs.Fault.{Fault}

@@ -19,9 +19,9 @@ ghost use Rattle.vl_front.specs.Calls.First.{IsSpellingFault, IsTreeFault};
 
 mod fault;
 
+use dt_core::limits::MAX_TOKENS;
 pub use fault::DesignFault;
 use fault::in_source;
-use dt_core::limits::MAX_TOKENS;
 use flat_ir::flat::Flat;
 use std::alloc::Global;
 use vl_tree::token::Token;

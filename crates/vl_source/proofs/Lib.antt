@@ -5,4 +5,4 @@ mod ItemRules
 mod BranchRules
 mod StartRules
 mod ModuleRules
-mod Refusals
+pub mod Refusals

@@ -1,6 +1,5 @@
 -- What the phases answer one another: the fault of the text, or of its tokens, that an answer names. This project's own.
 use Rattle.std.specs.Prelude.{◌≡◌, ℕ, Option, Result, Err}
-use Rattle.vl_tree.specs.declared.fault.FaultKind.{FaultKind}
 use Rattle.vl_tree.specs.Fault.{Fault}
 use Rattle.vl_tree.specs.Token.{Tokens}
 use Rattle.vl_front.specs.FirstFault.{HasTreeFault}
