@@ -5,6 +5,8 @@
 #[cfg(test)]
 mod expressions;
 #[cfg(test)]
+mod sources;
+#[cfg(test)]
 mod statements;
 #[cfg(test)]
 mod words;

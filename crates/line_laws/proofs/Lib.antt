@@ -1,0 +1,4 @@
+mod Pieces
+mod Derives
+mod Depths
+mod Lines
