@@ -1,0 +1,5 @@
+pub mod Paths
+pub mod Things
+pub mod Meaning
+pub mod Constant
+pub mod Reads
