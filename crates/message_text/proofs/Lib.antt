@@ -1,0 +1,3 @@
+mod MessageExamples
+pub mod BlockLaws
+pub mod RadixLaws

@@ -1,0 +1,4 @@
+mod PackedExamples
+pub mod PackLaws
+pub mod RowLaws
+pub mod UnpackLaws

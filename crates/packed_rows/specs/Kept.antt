@@ -1,0 +1,8 @@
+-- Rows that are kept, as contracts see them. This project's own.
+use Rattle.std.specs.Prelude.{ℕ, List}
+
+-- the widths of a row's values, the most rows that there is room for, and the rows
+pub record Kept : Type 0 where
+  pub widths : List ℕ
+  pub most : ℕ
+  pub rows : List (List ℕ)
