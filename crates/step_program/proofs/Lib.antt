@@ -1,0 +1,11 @@
+pub mod AfterLaws
+pub mod OfKinds
+pub mod Lefts
+pub mod Renames
+pub mod Owning
+pub mod Arranges
+pub mod Wholes
+pub mod Masks
+pub mod Ready
+pub mod Grows
+pub mod ValuesFit

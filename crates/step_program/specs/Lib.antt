@@ -1,0 +1,11 @@
+pub mod Values
+pub mod Fits
+pub mod Draft
+pub mod Table
+pub mod Plan
+pub mod Laws
+pub mod Running
+pub mod Inside
+pub mod Renamed
+pub mod Arranging
+pub mod Built
