@@ -86,24 +86,6 @@ fn join_range(
     Ok(())
 }
 
-// The nodes that an operation reads.
-fn operands(operation: Operation) -> [Option<u32>; 3] {
-    match operation {
-        Operation::Constant { .. } | Operation::Bits { .. } => [None, None, None],
-        Operation::Word { index, .. } => [Some(index.node), None, None],
-        Operation::Unary { of, .. } | Operation::Extend { of, .. } | Operation::Cut { of } => {
-            [Some(of), None, None]
-        }
-        Operation::Binary { left, right, .. } | Operation::Concat { left, right } => {
-            [Some(left), Some(right), None]
-        }
-        Operation::Select { of, place } => [Some(of), Some(place.node), None],
-        Operation::Keep { of, also } => [Some(of), Some(also), None],
-        Operation::Insert { of, place, part } => [Some(of), Some(place.node), Some(part)],
-        Operation::Choose { condition, yes, no } => [Some(condition), Some(yes), Some(no)],
-    }
-}
-
 // Adds the edges between a node and the nodes that it reads.
 fn join_operands(
     graph: &mut Graph,
@@ -111,7 +93,7 @@ fn join_operands(
     operation: Operation,
     node: usize,
 ) -> Result<(), AllocError> {
-    for operand in operands(operation) {
+    for operand in operation.operands() {
         if let Some(read) = operand {
             join(graph, direction, node, read as usize)?;
         }

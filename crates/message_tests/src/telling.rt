@@ -91,3 +91,33 @@ fn a_message_is_what_was_said_since_the_last_stop(rt: HostRuntime) -> Result<(),
     assert_eq!(rt; fired[2].message.bytes(), b"".as_slice());
     Ok(())
 }
+
+#[test]
+fn a_block_is_told_at_once(rt: HostRuntime) -> Result<(), Fail> {
+    let alloc: Global = rt.alloc();
+    let said = Event {
+        condition: 0,
+        effect: Effect::Said(Text::copied(alloc, b"n is ")?),
+    };
+    let shown = Event {
+        condition: 0,
+        effect: Effect::Showed(Shown {
+            node: 0,
+            signed: true,
+            base: Base::Decimal,
+            fewest: false,
+        }),
+    };
+    let stopped = Event {
+        condition: 0,
+        effect: Effect::Stopped(Place { token: 0, line: 1 }, true),
+    };
+    let events = vec![in alloc; said, shown, stopped]?;
+    let mut telling = Telling::new(alloc);
+    telling.tell_block(alloc, &events, &[given(true), given(true), given(true)])?;
+    let fired = telling.fired();
+    assert_eq!(rt; fired.len(), 1);
+    assert_eq!(rt; fired[0].stop, 0);
+    assert_eq!(rt; fired[0].message.bytes(), b"n is  -56".as_slice());
+    Ok(())
+}

@@ -7,3 +7,4 @@ pub mod ReadsLaw
 pub mod Puts
 pub mod SameValues
 pub mod SettlesOnce
+pub mod BitsLaw

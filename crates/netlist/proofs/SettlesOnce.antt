@@ -23,23 +23,23 @@ use Rattle.netlist.proofs.Puts.{bit, AreSized, some_with, put_sized, In, put_all
 
 -- ---- elements of a list
 
-record Place {X : Type 0} (x : X) (xs : List X) : Type 0 where
-  at : ℕ
-  is : slice_get xs at ≡ Some x
+pub record Place {X : Type 0} (x : X) (xs : List X) : Type 0 where
+  pub at : ℕ
+  pub is : slice_get xs at ≡ Some x
 
-place : {X : Type 0} (x : X) (xs : List X) → In x xs → Place x xs
+pub place : {X : Type 0} (x : X) (xs : List X) → In x xs → Place x xs
 place x [] among = absurd among
 place x (y ∷ ys) among = elim among [
   | inl e ↦ record { at = 0; is = ap Some (sym e) }
   | inr h ↦ (let p = place x ys h in record { at = suc p.at; is = p.is })
 ]
 
-in_from : {X : Type 0} (x : X) (xs : List X) (k : ℕ) → slice_get xs k ≡ Some x → In x xs
+pub in_from : {X : Type 0} (x : X) (xs : List X) (k : ℕ) → slice_get xs k ≡ Some x → In x xs
 in_from x [] k at = absurd cc
 in_from x (y ∷ ys) zero at = inl cc
 in_from x (y ∷ ys) (suc k) at = inr (in_from x ys k at)
 
-all_in : {X : Type 0} (P : X → Type 0) (xs : List X) → All P xs → (x : X) → In x xs → P x
+pub all_in : {X : Type 0} (P : X → Type 0) (xs : List X) → All P xs → (x : X) → In x xs → P x
 all_in P xs a x among =
     let p = place x xs among in
     subst P (get_or_from_slice_get xs p.at x x p.is) (All-get_or P xs p.at x (slice_get_within xs p.at x p.is) a)
@@ -59,7 +59,7 @@ abbrev over : Flat → List (List ℕ) → DrivenPart → List ℕ → ℕ
 over f m p v = slice_index (node_values f (record { signals = v; memories = m })) p.node
 
 -- a part's node among values that are given
-abbrev fixed : List ℕ → DrivenPart → List ℕ → ℕ
+abbrev pub fixed : List ℕ → DrivenPart → List ℕ → ℕ
 fixed xs p v = slice_index xs p.node
 
 driven_is : (f : Flat) (m : List (List ℕ)) (ks : List ℕ) (v : List ℕ)
@@ -73,7 +73,7 @@ driven_is f m (k ∷ ks) v =
       | Some p ↦ driven_is f m ks (put f.signals p.range (over f m p v) v)
     ]
 
-put_driven_is : (ss : List Signal) (ps : List DrivenPart) (xs v : List ℕ)
+pub put_driven_is : (ss : List Signal) (ps : List DrivenPart) (xs v : List ℕ)
     → put_driven ss ps xs v ≡ put_all ss (fixed xs) ps v
 put_driven_is ss [] xs v = refl
 put_driven_is ss (p ∷ ps) xs v = put_driven_is ss ps xs (put ss p.range (slice_index xs p.node) v)
@@ -157,13 +157,13 @@ all_steady f w m (k ∷ ks) back =
     (all_steady f w m ks (λ i j a b r. (let l : suc j < suc i = back (suc i) (suc j) (omega (arith, a)) (omega (arith, b)) r in
     omega (arith, l))))
 
-fixed_steady : (xs : List ℕ) (ps : List DrivenPart) → AreSteady (fixed xs) ps
+pub fixed_steady : (xs : List ℕ) (ps : List DrivenPart) → AreSteady (fixed xs) ps
 fixed_steady xs [] = tt
 fixed_steady xs (p ∷ ps) = (λ u v agree. refl, fixed_steady xs ps)
 
 -- ---- what the state and the row say
 
-registers_sized : (ss : List Signal) (ps : List RegisterPart) (state v : List ℕ)
+pub registers_sized : (ss : List Signal) (ps : List RegisterPart) (state v : List ℕ)
     → ((p : RegisterPart) → In p ps → PlaceFits ss p.range) → AreSized ss v
     → AreSized ss (put_registers ss ps state v)
 registers_sized ss [] state v fits z = z
@@ -171,24 +171,33 @@ registers_sized ss (p ∷ ps) state v fits z =
     registers_sized ss ps (drop 1 state) (put ss p.range (slice_index state 0) v) (λ q h. fits q (inr h))
     (put_sized ss p.range (slice_index state 0) v (fits p (inl refl)) z)
 
-given_sized : (f : Flat) → IsWellFormed f → (s : State) (row : List ℕ) → AreSized f.signals (given f s row)
+-- what a row says of the signals, and what they keep
+abbrev pub plain : Flat → List ℕ → List ℕ
+plain f row = map (λ x. role_value row x.kept x.role) f.signals
+
+pub plain_at : (f : Flat) (row : List ℕ) (k : ℕ) (x : Signal) → slice_get f.signals k ≡ Some x
+    → slice_index (plain f row) k ≡ role_value row x.kept x.role
+plain_at f row k x at =
+    get_or-map (λ y. role_value row y.kept y.role) f.signals k x 0 (slice_get_within f.signals k x at)
+    ∙ ap (λ (y : Signal). role_value row y.kept y.role) (get_or_from_slice_get f.signals k x x at)
+
+pub plain_sized : (f : Flat) → IsWellFormed f → (row : List ℕ) → AreSized f.signals (plain f row)
+plain_sized f w row = record {
+  count = length-map f.signals (λ x. role_value row x.kept x.role);
+  inner = λ k x at inner.
+      let fits : SignalFits (length f.scopes) f.inputs k x =
+      subst (λ y. SignalFits (length f.scopes) f.inputs k y) (get_or_from_slice_get f.signals k x x at)
+      (w.signals.each k x (slice_get_within f.signals k x at)) in
+      let value = plain_at f row k x at ∙ ap (λ r. role_value row x.kept r) inner in
+      subst (λ n. n < 2 ^ x.width) (sym value) fits.3;
+}
+
+pub given_sized : (f : Flat) → IsWellFormed f → (s : State) (row : List ℕ) → AreSized f.signals (given f s row)
 given_sized f w s row =
-    registers_sized f.signals f.registers s.registers (map (λ x. role_value row x.kept x.role) f.signals)
+    registers_sized f.signals f.registers s.registers (plain f row)
     (λ p h. let fits : RegisterFits (length f.blocks) f.signals f.nodes p = all_in (RegisterFits (length f.blocks) f.signals f.nodes)
     f.registers w.parts.registers p h in
-    fits.0)
-    (record {
-      count = length-map f.signals (λ x. role_value row x.kept x.role);
-      inner = λ k x at inner.
-          let there : k < length f.signals = slice_get_within f.signals k x at in
-          let fits : SignalFits (length f.scopes) f.inputs k x =
-          subst (λ y. SignalFits (length f.scopes) f.inputs k y) (get_or_from_slice_get f.signals k x x at)
-          (w.signals.each k x there) in
-          let value = get_or-map (λ y. role_value row y.kept y.role) f.signals k x 0 there
-          ∙ ap (λ (y : Signal). role_value row y.kept y.role) (get_or_from_slice_get f.signals k x x at)
-          ∙ ap (λ r. role_value row x.kept r) inner in
-          subst (λ n. n < 2 ^ x.width) (sym value) fits.3;
-    })
+    fits.0) (plain_sized f w row)
 
 -- ---- both halves
 
@@ -196,11 +205,11 @@ equal_from_bits : (u v : List ℕ) → length u ≡ length v → ((s i : ℕ) �
     → u ≡ v
 equal_from_bits u v l same = ext_get_or 0 u v l (λ k _. same_from_bits (slice_index u k) (slice_index v k) (same k))
 
-driven_placed : (f : Flat) → IsWellFormed f → AllPlaced f.signals f.driven
+pub driven_placed : (f : Flat) → IsWellFormed f → AllPlaced f.signals f.driven
 driven_placed f w p h =
     let fits : DrivenFits f.signals f.nodes p = all_in (DrivenFits f.signals f.nodes) f.driven w.parts.driven p h in fits.0
 
-lie_in_one : (f : Flat) → IsWellFormed f → LieInOne f.driven
+pub lie_in_one : (f : Flat) → IsWellFormed f → LieInOne f.driven
 lie_in_one f w p q s i a b c d =
     let x = place p f.driven a in
     let y = place q f.driven b in

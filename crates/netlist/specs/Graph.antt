@@ -1,5 +1,5 @@
 -- What the nodes and the driven parts of a design read. This project's own.
-use Rattle.std.specs.Prelude.{◌≡◌, ℕ, zero, suc, ◌+◌, ◌==◌, ◌&&◌, ◌||◌, Bool, false, nat_lt, List, [], ◌∷◌, ◌++◌, slice_index_or, slice_get, IsSomeAnd, IsTrue}
+use Rattle.std.specs.Prelude.{◌≡◌, ℕ, zero, suc, ◌+◌, ◌==◌, ◌&&◌, ◌||◌, Bool, false, nat_lt, List, [], ◌∷◌, ◌++◌, slice_index_or, slice_get, Option, Some, None, IsSomeAnd, IsTrue}
 use Rattle.netlist.specs.Design.{Flat}
 use Rattle.netlist.specs.declared.design.Range.{Range}
 use Rattle.netlist.specs.declared.design.DrivenPart.{DrivenPart}
@@ -21,6 +21,12 @@ operands (o.Insert a place b) = a ∷ place.node ∷ b ∷ []
 operands (o.Concat a b) = a ∷ b ∷ []
 operands (o.Choose c a b) = c ∷ a ∷ b ∷ []
 operands (o.Keep a b) = a ∷ b ∷ []
+
+-- the numbers that are there
+abbrev pub somes : List (Option ℕ) → List ℕ
+somes [] = []
+somes (None ∷ more) = somes more
+somes (Some n ∷ more) = n ∷ somes more
 
 -- two ranges have a bit in common
 abbrev pub overlap : Range → Range → Bool

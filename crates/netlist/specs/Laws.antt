@@ -1,13 +1,15 @@
 -- What follows from well-formedness. This project's own.
-use Rattle.std.specs.Prelude.{◌≡◌, ℕ, ◌+◌, ◌<◌, ◌≤◌, Bool, false, List, [], length, slice_get, slice_index, slice_index_or, Some}
+use Rattle.std.specs.Prelude.{◌≡◌, ℕ, ◌+◌, ◌-◌, ◌<◌, ◌≤◌, Bool, false, List, [], length, slice_get, slice_index, slice_index_or, Some}
+use Rattle.std.specs.Int.{bit_at}
 use Rattle.netlist.specs.Design.{Flat}
 use Rattle.netlist.specs.Graph.{operands, node_reads, nodes_read}
 use Rattle.netlist.specs.Fits.{IsWellFormed}
 use Rattle.netlist.specs.Order.{IsOrder, flat_val}
-use Rattle.netlist.specs.Run.{State, FlatSettles}
+use Rattle.netlist.specs.Run.{State, FlatSettles, role_value, all_words}
 use Rattle.netlist.specs.Values.{Values, node_value, node_values}
 use Rattle.netlist.specs.declared.node.Node.{Node}
 use Rattle.netlist.specs.declared.design.Range.{Range}
+use Rattle.netlist.specs.declared.design.Signal.{Signal}
 use Rattle.netlist.specs.declared.design.DrivenPart.{DrivenPart}
 use Rattle.netlist.specs.declared.design.RegisterPart.{RegisterPart}
 
@@ -63,3 +65,31 @@ pub record SettlesAlone (f : Flat) (s : State) (row : List ℕ) (v : Values) : T
 abbrev pub SettlesOnce : Type 0
 SettlesOnce = (f : Flat) (order : List ℕ) (s : State) (row : List ℕ) → IsWellFormed f → IsOrder f order
     → SettlesAlone f s row (flat_val f order s row)
+
+-- the bit of a signal lies in no part
+pub record LiesInNone (f : Flat) (signal place : ℕ) : Type 0 where
+  pub driven : (k : ℕ) (d : DrivenPart) → k < length f.driven → HasBit (slice_index_or f.driven k d).range signal place → ⊥
+  pub registers : (k : ℕ) (d : RegisterPart) → k < length f.registers
+      → HasBit (slice_index_or f.registers k d).range signal place → ⊥
+
+-- the bit of n at a place of a range is the one that v has there
+abbrev pub HasBitOf : Values → Range → ℕ → ℕ → Type 0
+HasBitOf v r place n = bit_at (slice_index v.signals r.signal) place ≡ bit_at n (place - r.low)
+
+-- a driven part has the bits of its node, a register part those of its value in the state; a bit in no part is the
+-- row's, or what its signal keeps there
+pub record HasBitsOfParts (f : Flat) (s : State) (row : List ℕ) (v : Values) : Type 0 where
+  pub memories : v.memories ≡ all_words f.memories s.memories
+  pub driven : (k i : ℕ) (d : DrivenPart) → k < length f.driven
+      → HasBit (slice_index_or f.driven k d).range (slice_index_or f.driven k d).range.signal i
+      → HasBitOf v (slice_index_or f.driven k d).range i (slice_index (node_values f v) (slice_index_or f.driven k d).node)
+  pub registers : (k i : ℕ) (d : RegisterPart) → k < length f.registers
+      → HasBit (slice_index_or f.registers k d).range (slice_index_or f.registers k d).range.signal i
+      → HasBitOf v (slice_index_or f.registers k d).range i (slice_index s.registers k)
+  pub others : (t i : ℕ) (x : Signal) → slice_get f.signals t ≡ Some x → LiesInNone f t i
+      → bit_at (slice_index v.signals t) i ≡ bit_at (role_value row x.kept x.role) i
+
+-- A law: what settles with a well-formed design has the bits of its parts.
+abbrev pub BitsLaw : Type 0
+BitsLaw = (f : Flat) (s : State) (row : List ℕ) (v : Values) → IsWellFormed f → FlatSettles f s row v
+    → HasBitsOfParts f s row v

@@ -24,3 +24,9 @@ pub fn reads_law()
 pub fn settles_law()
     ensures { laws.SettlesOnce }
 {}
+
+/// What settles has, in each driven part, the bits of its node, in each register part those of the state, and
+/// elsewhere those of the row, or what its signal keeps.
+pub fn bits_law()
+    ensures { laws.BitsLaw }
+{}

@@ -7,8 +7,9 @@
 //! a design. `specs/Values` says what the values of its nodes are, `specs/Run` what settles in a cycle, the next
 //! state and what fires, `specs/Graph` what its parts read, `specs/Order` what an order and a loop of them are,
 //! `specs/Message` what text a value has. `laws` says what follows: no bit lies in two parts, the nodes have one list
-//! of values, a node reads what its operation reads and what the nodes that it reads do, and where there is an order
-//! one valuation settles, that of the order. No call takes memory. Not said: that a design has an order.
+//! of values, a node reads what its operation reads and what the nodes that it reads do, where there is an order
+//! one valuation settles, that of the order, and what settles has the bits of its parts. No call takes memory. Not
+//! said: that a design has an order.
 #![tactic(auto)]
 
 mod counts;

@@ -1,5 +1,8 @@
 //! Nodes of expressions.
 
+ghost use Rattle.std.specs.Prelude.{◌≡◌};
+ghost use Rattle.netlist.specs.Graph as graph;
+
 use crate::design::{Index, Range};
 use bit_ops::{Binary, Unary};
 
@@ -67,6 +70,28 @@ pub enum Operation {
         of: u32,
         also: u32,
     },
+}
+
+impl Operation {
+    /// The lower nodes that it reads, three at most.
+    pub fn operands(&self) -> [Option<u32>; 3]
+        ensures { graph.somes result ≡ graph.operands self.now }
+    {
+        match *self {
+            Operation::Constant { .. } | Operation::Bits { .. } => [None, None, None],
+            Operation::Word { index, .. } => [Some(index.node), None, None],
+            Operation::Unary { of, .. } | Operation::Extend { of, .. } | Operation::Cut { of } => {
+                [Some(of), None, None]
+            }
+            Operation::Binary { left, right, .. } | Operation::Concat { left, right } => {
+                [Some(left), Some(right), None]
+            }
+            Operation::Select { of, place } => [Some(of), Some(place.node), None],
+            Operation::Keep { of, also } => [Some(of), Some(also), None],
+            Operation::Insert { of, place, part } => [Some(of), Some(place.node), Some(part)],
+            Operation::Choose { condition, yes, no } => [Some(condition), Some(yes), Some(no)],
+        }
+    }
 }
 
 /// A node: its width of 1 to `MAX_WIDTH` bits, and how its value, below 2^width, comes about.

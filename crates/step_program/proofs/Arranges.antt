@@ -526,11 +526,11 @@ progress_all d a entries i l p = progress_ends d a (subst (Progress d a) (drop_a
 
 -- ---- all of it
 
-pub arranged_whole : (given total : Numbers) (entries : List Entry) (a b c : Arranger) → AreEntries given total entries
-    → IsFresh given total a
-    → ((d : Draft) → AllOwn d entries → IsOpening d a → IsOpening d b)
-    → ((d : Draft) → HasEntries d entries → IsArranged d b → IsWhole d c) → IsWhole (draft_from given entries) c
-arranged_whole given total entries a b c h fresh hoisted placed =
+pub arranged_whole : (given total : Numbers) (entries : List Entry) (a b c e : Arranger) → AreEntries given total entries
+    → IsFresh given total a → ((d : Draft) → AllOwn d entries → IsOpening d a → IsOpening d b)
+    → ((d : Draft) → AllOwn d entries → IsArranged d b → IsArranged d c)
+    → ((d : Draft) → HasEntries d entries → IsArranged d c → IsWhole d e) → IsWhole (draft_from given entries) e
+arranged_whole given total entries a b c e h fresh hoisted early placed =
     let d : Draft = draft_from given entries in
-    let e : HasEntries d entries = entries_of given total entries h in
-    placed d e (hoisted d e.owns (fresh_opens given total entries a fresh h)).arranged
+    let has : HasEntries d entries = entries_of given total entries h in
+    placed d has (early d has.owns (hoisted d has.owns (fresh_opens given total entries a fresh h)).arranged)

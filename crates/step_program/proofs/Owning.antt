@@ -3,7 +3,7 @@ use Rattle.std.proofs.Common.{◌≡◌, ℕ, zero, suc, ◌+◌, Bool, true, fa
 use Rattle.step_program.specs.Values.{Slots, slot_value, placed, after, is_narrow, step_value}
 use Rattle.step_program.specs.Fits.{IsSlot, is_narrow_slot, next_slot, StepFits, StepsFit, narrow_one, wide_one, narrow_steps, wide_steps}
 use Rattle.step_program.specs.Draft.{Draft, IsGiven, IsPlaced, Fits, HasStep, narrow_count, wide_count}
-use Rattle.step_program.specs.Arranging.{IsNext, steps_of, draft_from, AreNext, AreEntries, Owns, AllOwn, HasEntries}
+use Rattle.step_program.specs.Arranging.{IsNext, IsAmong, steps_of, draft_from, AreNext, AreEntries, Owns, AllOwn, HasEntries}
 use Rattle.step_program.specs.declared.step.Slot.{Slot}
 use Rattle.step_program.specs.declared.step.Step.{Step}
 use Rattle.step_program.specs.declared.entry.Entry.{Entry}
@@ -195,3 +195,19 @@ entry_has given next entries items s b new h is k e =
     let slot : next_slot (is_narrow s) (narrow_count d) (wide_count d) ≡ new.slot =
     (λ i. next_slot (sym is i) (sym h.narrow i) (sym h.wide i)) ∙ sym k.slot in
     subst (λ q. HasStep d q s new.slot) same (subst (HasStep d (with_step d s) s) slot (puts_step d s))
+
+-- a step that stands among the entries has its value in its slot already
+pub found_has : (given next : Numbers) (entries : List Entry) (s : Step) (slot : Slot) → AreEntries given next entries
+    → IsAmong entries s slot → HasStep (draft_from given entries) (draft_from given entries) s slot
+found_has given next entries s slot h (k, l, e) =
+    let d : Draft = draft_from given entries in
+    let x : Entry = record { step = s; slot = slot } in
+    let own : Owns d x = subst (Owns d) e ((entries_of given next entries h).owns k x l) in record {
+      narrow = refl;
+      wide = refl;
+      placed = own.placed;
+      kind = own.kind;
+      value = own.value;
+      still_placed = λ i p. p;
+      same = λ words g i p q. refl;
+    }

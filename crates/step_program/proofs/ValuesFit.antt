@@ -1,5 +1,5 @@
 -- The value of a rare step is below 2^width.
-use Rattle.std.proofs.Common.{◌≡◌, ℕ, zero, suc, ◌+◌, ◌-◌, ◌*◌, ◌/◌, ◌%◌, ◌^◌, ◌<◌, ◌≤◌, min, Bool, true, false, cond, List, [], bit_and, bit_or, bit_xor, ℤ, pos, negsuc, refl, sym, ap, subst, ◌∙◌, arith, lit<}
+use Rattle.std.proofs.Common.{◌≡◌, ℕ, suc, ◌+◌, ◌*◌, ◌/◌, ◌^◌, ◌<◌, min, Bool, true, false, List, ℤ, pos, negsuc, refl, sym, subst, arith, lit<}
 use Rattle.std.specs.Prelude.{◌==◌, if◌then◌else◌}
 use Rattle.std.proofs.Math.Nat.{mod-lt}
 use Rattle.std.proofs.lemmas.Nat.{pow_pos, pow-add, mul-add-lt, and_le_l, or_lt, xor_lt, shr_le}
@@ -10,7 +10,7 @@ use Rattle.bit_ops.specs.declared.operator.Unary.TheVariants as one
 use Rattle.bit_ops.specs.declared.operator.Binary.{Binary}
 use Rattle.bit_ops.specs.declared.operator.Binary.TheVariants as two
 use Rattle.step_program.specs.Values.{Slots, slot_value, operand_value, number_value, calculation_value}
-use Rattle.step_program.specs.Fits.{CalculationFits, OneWidth}
+use Rattle.step_program.specs.Fits.{CalculationFits}
 use Rattle.step_program.specs.declared.step.Operand.{Operand}
 use Rattle.step_program.specs.declared.step.Calculation.{Calculation}
 use Rattle.step_program.specs.declared.step.Calculation.TheVariants as c

@@ -43,6 +43,11 @@ steps_of entries = map (λ e. e.step) entries
 abbrev pub draft_from : Numbers → List Entry → Draft
 draft_from given entries = record { narrow = given.narrow; wide = given.wide; steps = steps_of entries }
 
+-- the step stands among the entries, with this slot
+abbrev pub IsAmong : List Entry → Step → Slot → Type 0
+IsAmong entries step slot = (k : ℕ) × (k < length entries)
+    × (slice_index_or entries k (record { step = step; slot = slot }) ≡ record { step = step; slot = slot })
+
 -- each entry has the slot that comes next
 abbrev pub AreNext : ℕ → ℕ → List Entry → Type 0
 AreNext n m [] = Unit {0}

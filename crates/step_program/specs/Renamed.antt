@@ -1,5 +1,5 @@
 -- Steps of a draft as steps of the program, and what steps read. This project's own.
-use Rattle.std.specs.Prelude.{ℕ, slice_index}
+use Rattle.std.specs.Prelude.{ℕ, slice_index, List, [], ◌∷◌, Option, Some, None}
 use Rattle.step_program.specs.Table.{Table, stands}
 use Rattle.step_program.specs.declared.step.Slot.{Slot}
 use Rattle.step_program.specs.declared.step.Slot.TheVariants as at
@@ -101,3 +101,37 @@ Reads Q (s.Join x) = BothRead Q x.high x.low
 Reads Q (s.Take x) = Q (at.Narrow x.of)
 Reads Q (s.Sum x) = BothRead Q x.left x.right
 Reads Q (s.Rare x) = CalculationReads Q x.calculation
+
+-- the same as three slots, where there are so many
+
+abbrev pub one : Slot → List (Option Slot)
+one a = Some a ∷ None ∷ None ∷ []
+
+abbrev pub pair : Slot → Slot → List (Option Slot)
+pair a b = Some a ∷ Some b ∷ None ∷ []
+
+abbrev pub three : Slot → Slot → Slot → List (Option Slot)
+three a b c = Some a ∷ Some b ∷ Some c ∷ []
+
+abbrev pub calculation_operands : Calculation → List (Option Slot)
+calculation_operands (c.Constant value) = None ∷ None ∷ None ∷ []
+calculation_operands (c.Unary operator of) = one of.slot
+calculation_operands (c.Binary operator signed left right) = pair left.slot right.slot
+calculation_operands (c.Extend signed of) = one of.slot
+calculation_operands (c.Cut of) = one of.slot
+calculation_operands (c.Select of place) = pair of.slot place.of.slot
+calculation_operands (c.Insert of place part) = three of.slot place.of.slot part.slot
+calculation_operands (c.Concat left right) = pair left.slot right.slot
+calculation_operands (c.Choose condition first second) = three condition.slot first.slot second.slot
+calculation_operands (c.Word memory least index) = one index.of.slot
+
+abbrev pub operands : Step → List (Option Slot)
+operands (s.And x) = pair (at.Narrow x.left) (at.Narrow x.right)
+operands (s.Or x) = pair (at.Narrow x.left) (at.Narrow x.right)
+operands (s.Xor x) = pair (at.Narrow x.left) (at.Narrow x.right)
+operands (s.Pick x) = three (at.Narrow x.condition) (at.Narrow x.yes) (at.Narrow x.no)
+operands (s.Test x) = pair (at.Narrow x.of) (at.Narrow x.like)
+operands (s.Join x) = pair (at.Narrow x.high) (at.Narrow x.low)
+operands (s.Take x) = one (at.Narrow x.of)
+operands (s.Sum x) = pair (at.Narrow x.left) (at.Narrow x.right)
+operands (s.Rare x) = calculation_operands x.calculation

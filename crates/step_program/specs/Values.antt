@@ -22,7 +22,7 @@ use Rattle.step_program.specs.declared.step.Step.TheVariants as s
 
 -- ---- slots
 
--- the numbers that stand in the narrow slots, below 2^64, and in the wide ones, below 2^128
+-- the numbers that stand in the narrow slots and in the wide ones
 pub record Slots : Type 0 where
   pub narrow : List ℕ
   pub wide : List ℕ

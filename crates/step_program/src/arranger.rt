@@ -10,10 +10,12 @@ ghost use Rattle.step_program.specs.Arranging as arranging;
 use crate::entry::Entry;
 use crate::grow::add;
 use crate::numbers::Numbers;
+use crate::operands::are_set;
 use crate::placement::Placement;
 use crate::program::Program;
 use crate::rename::renamed;
 use crate::runs::{Counts, Run};
+use crate::schedule;
 use crate::step::{Calculation, Slot, Step};
 use std::alloc::{AllocError, Global};
 
@@ -146,6 +148,47 @@ impl Arranger {
         Ok(())
     }
 
+    // Adds an entry that isn't placed yet, where all that it reads is.
+    fn place_early(&mut self, alloc: Global, entry: &Entry) -> Result<(), AllocError>
+        ensures { OnOk result ((d : Draft) → arranging.Owns d entry.now → arranging.IsArranged d self.old
+            → arranging.IsArranged d self.new) }
+    {
+        if self.placement.is_set(entry.slot) {
+            return Ok(());
+        }
+        if !are_set(&entry.step, &self.placement) {
+            return Ok(());
+        }
+        self.add_step(alloc, entry)
+    }
+
+    // The same for the entry at a place, if there is one.
+    fn place_at(&mut self, alloc: Global, entries: &[Entry], place: usize) -> Result<(), AllocError>
+        ensures { OnOk result ((d : Draft) → arranging.AllOwn d entries.now → arranging.IsArranged d self.old
+            → arranging.IsArranged d self.new) }
+    {
+        match entries.get(place) {
+            Some(entry) => self.place_early(alloc, entry),
+            None => Ok(()),
+        }
+    }
+
+    // The same for entries in this order, whatever it is.
+    fn place_in(
+        &mut self,
+        alloc: Global,
+        entries: &[Entry],
+        order: &[usize],
+    ) -> Result<(), AllocError>
+        ensures { OnOk result ((d : Draft) → arranging.AllOwn d entries.now → arranging.IsArranged d self.old
+            → arranging.IsArranged d self.new) }
+    {
+        for place in order {
+            self.place_at(alloc, entries, *place)?;
+        }
+        Ok(())
+    }
+
     // Adds an entry, if it isn't placed yet.
     fn place(&mut self, alloc: Global, entry: &Entry) -> Result<(), AllocError>
         ensures { OnOk result (arranging.Places self.old self.new entry.now) }
@@ -209,6 +252,8 @@ pub(crate) fn arranged(
 {
     let mut arranger = Arranger::new(alloc, given, total)?;
     arranger.hoist_all(entries)?;
+    let order = schedule::order(alloc, given, entries)?;
+    arranger.place_in(alloc, entries, &order)?;
     arranger.place_all(alloc, entries)?;
     Ok(arranger.finished())
 }

@@ -10,10 +10,13 @@ ghost use Rattle.step_program.specs.declared.step.Step.TheVariants as s;
 
 use crate::arranger::{Closed, arranged};
 use crate::entry::Entry;
+use crate::keys::key_of;
+use crate::known::found;
 use crate::numbers::Numbers;
 use crate::step::{Calculation, Rare, Slot, Step};
 use dt_core::fault::NoMemory;
 use std::alloc::Global;
+use std::collections::HashMap;
 use std::marker::Model;
 
 /// A program that is being built: how many slots of each kind are given, the steps, and how many slots there are.
@@ -22,6 +25,7 @@ pub struct Builder {
     given: Numbers,
     next: Numbers,
     entries: Vec<Entry>,
+    known: HashMap<u64, u32>,
 }
 
 impl Model for Builder {
@@ -46,6 +50,7 @@ impl Builder {
             given,
             next: given,
             entries: Vec::new(alloc),
+            known: HashMap::new(alloc),
         })
     }
 
@@ -61,9 +66,21 @@ impl Builder {
         }))
     }
 
-    /// A slot with the step's value: a new one, or that of an equal step. Out of memory also where there would be 2^32
-    /// slots of its kind.
+    /// A slot with the step's value: a new one, or that of an equal step, if it is a fast step or a constant. Out of memory
+    /// also where there would be 2^32 slots of its kind.
     pub fn push(&mut self, step: Step) -> Result<Slot, NoMemory>
+        requires { draft.Fits self.old step }
+        ensures { IfOk result (λ slot. draft.HasStep self.old self.new step slot) }
+    {
+        let key = key_of(&step);
+        match found(&self.known, &self.entries, key, &step) {
+            Some(slot) => Ok(slot),
+            None => self.append(key, step),
+        }
+    }
+
+    // A new slot with the step's value.
+    fn append(&mut self, key: u64, step: Step) -> Result<Slot, NoMemory>
         requires { draft.Fits self.old step }
         ensures { IfOk result (λ slot. draft.HasStep self.old self.new step slot) }
     {
@@ -71,6 +88,10 @@ impl Builder {
             Some(next) => next,
             None => return Err(NoMemory),
         };
+        let number = u32::try_from(self.entries.len()).unwrap_or(u32::MAX);
+        if self.known.insert(key, number).is_err() {
+            return Err(NoMemory);
+        }
         let entry = Entry {
             step,
             slot: next.slot,

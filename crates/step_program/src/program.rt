@@ -54,7 +54,7 @@ fn memory<T: Copy>(
 }
 
 impl Program {
-    /// The program's memory: its constants in their places, and 0 in each other slot.
+    /// The program's memory, with its constants in their places.
     pub fn start(&self, alloc: Global) -> Result<SlotValues, NoMemory>
         ensures { IfOk result (λ slots. plan.IsReady self.now (plan.held slots)) }
     {
@@ -110,6 +110,7 @@ impl Program {
         ensures ready { plan.IsReady self.now (plan.held slots.new) }
         ensures given { number < self.now.narrow
             → plan.held slots.new ≡ laws.with_narrow (plan.held slots.old) number value }
+        ensures beyond { self.now.narrow ≤ number → plan.held slots.new ≡ plan.held slots.old }
     {
         ready_law();
         if (number as usize) < self.given.narrow {
@@ -123,6 +124,7 @@ impl Program {
         ensures ready { plan.IsReady self.now (plan.held slots.new) }
         ensures given { number < self.now.wide
             → plan.held slots.new ≡ laws.with_wide (plan.held slots.old) number value }
+        ensures beyond { self.now.wide ≤ number → plan.held slots.new ≡ plan.held slots.old }
     {
         ready_law();
         if (number as usize) < self.given.wide {

@@ -7,7 +7,7 @@ ghost use Rattle.step_program.specs.Arranging as arranging;
 use bit_ops::{Binary, Unary};
 
 /// A slot by its number: a narrow one holds a number below 2^64, a wide one below 2^128.
-#[derive(Clone, Copy, PartialEq, Eq)]
+#[derive(Clone, Copy)]
 pub enum Slot {
     Narrow(u32),
     Wide(u32),
@@ -37,7 +37,8 @@ pub struct Test {
     pub differs: bool,
 }
 
-/// `high` times a power of two, with the bits of `low` to its right.
+/// The bits of `high` times `scale` and those of `low` in one number. Where the scale is a power of two above `low`,
+/// `low` stands to the right of `high`.
 #[derive(Clone, Copy, PartialEq, Eq)]
 pub struct Join {
     pub high: u32,
@@ -62,21 +63,21 @@ pub struct Sum {
 }
 
 /// The low `width` bits of a slot, from 1 to `MAX_WIDTH`.
-#[derive(Clone, Copy, PartialEq, Eq)]
+#[derive(Clone, Copy)]
 pub struct Operand {
     pub slot: Slot,
     pub width: u32,
 }
 
 /// The whole number that an operand stands for, below 0 only where it is signed.
-#[derive(Clone, Copy, PartialEq, Eq)]
+#[derive(Clone, Copy)]
 pub struct Number {
     pub of: Operand,
     pub signed: bool,
 }
 
 /// An operation of `bit_ops` on slots of either kind, each with its width.
-#[derive(Clone, Copy, PartialEq, Eq)]
+#[derive(Clone, Copy)]
 pub enum Calculation {
     /// A number below 2^width.
     Constant {
@@ -133,7 +134,7 @@ pub enum Calculation {
 }
 
 /// A rare step: the width of its value, from 1 to `MAX_WIDTH`, and how it comes about.
-#[derive(Clone, Copy, PartialEq, Eq)]
+#[derive(Clone, Copy)]
 pub struct Rare {
     pub width: u32,
     pub calculation: Calculation,
@@ -141,7 +142,7 @@ pub struct Rare {
 
 /// What puts a value into a slot. The value of a fast step is narrow, that of a rare one narrow where its width is at
 /// most 64.
-#[derive(Clone, Copy, PartialEq, Eq)]
+#[derive(Clone, Copy)]
 pub enum Step {
     And(Two),
     Or(Two),

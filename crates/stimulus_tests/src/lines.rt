@@ -20,7 +20,7 @@ struct Case {
     fault: Option<StimFault>,
 }
 
-static CASES: [Case; 6] = [
+static CASES: [Case; 8] = [
     Case {
         byte: "0",
         times: 524_286,
@@ -52,6 +52,25 @@ static CASES: [Case; 6] = [
         byte: "0",
         times: 524_289,
         after: "",
+        piece: 100_000,
+        rows: 0,
+        fault: Some(StimFault::Refused(Refusal {
+            kind: RefusalKind::LineTooLong,
+            line: 3,
+        })),
+    },
+    Case {
+        byte: "0",
+        times: 524_285,
+        after: "ff\r\n",
+        piece: 100_000,
+        rows: 1,
+        fault: None,
+    },
+    Case {
+        byte: "0",
+        times: 524_286,
+        after: "ff\r\n",
         piece: 100_000,
         rows: 0,
         fault: Some(StimFault::Refused(Refusal {

@@ -1,18 +1,11 @@
-use Rattle.std.proofs.Common.{sym, subst}
-use Rattle.step_program.specs.Draft.{Fits, HasStep}
-use Rattle.step_program.specs.Arranging.{draft_from}
-use Rattle.step_program.proofs.Owning.{entry_fits, entry_has}
+use Rattle.std.proofs.Common.{subst}
+use Rattle.step_program.specs.Draft.{HasStep}
+use Rattle.step_program.specs.Arranging.{IsAmong}
+use Rattle.step_program.proofs.Owning.{found_has}
 use Rattle.step_program.proofs.builder.Builder.push.Goals as goal
 
-pub invariant_of-self : goal.invariant_of-self
-invariant_of-self c =
-    entry_fits c.self.inside.given c.self.inside.next c.self.inside.entries.items c.push.new.self.items c.args.step
-    c.is_narrow.result c.in-Some.next c.self.invariant (subst (λ d. Fits d c.args.step) (sym c.self.view_is) c.requires)
-    c.is_narrow.ensures c.in-Some.ensures c.in-Ok.ensures.items
-
-pub returns-in-Ok : goal.returns-in-Ok
-returns-in-Ok c =
-    subst (λ d. HasStep d (draft_from c.self.inside.given c.push.new.self.items) c.args.step c.in-Some.next.slot)
-    c.self.view_is
-    (entry_has c.self.inside.given c.self.inside.next c.self.inside.entries.items c.push.new.self.items c.args.step
-    c.is_narrow.result c.in-Some.next c.self.invariant c.is_narrow.ensures c.in-Some.ensures c.in-Ok.ensures.items)
+pub returns-in-Some : goal.returns-in-Some
+returns-in-Some c =
+    subst (λ d. HasStep d d c.args.step c.in-Some.slot) c.self.view_is
+    (found_has c.self.inside.given c.self.inside.next c.self.inside.entries.items c.args.step c.in-Some.slot c.self.invariant
+    (subst (λ xs. IsAmong xs c.args.step c.in-Some.slot) c.deref.ensures.value c.in-Some.ensures))

@@ -1,0 +1,11 @@
+pub mod Numbers
+pub mod Fitting
+pub mod Standing
+pub mod Calculations
+pub mod InOrder
+pub mod OfPieces
+pub mod GivenSlots
+pub mod Nodes
+pub mod Whole
+pub mod Shapes
+pub mod Fast

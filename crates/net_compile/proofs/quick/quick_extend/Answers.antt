@@ -1,0 +1,7 @@
+use Rattle.net_compile.proofs.Fast.{extend_quick}
+use Rattle.net_compile.proofs.quick.quick_extend.Goals as goal
+
+pub returns : goal.returns
+returns c =
+    extend_quick c.args.width c.in_ok-narrow.field-0 c.args.of c.bits.result c.requires.1 c.in_ok-narrow.ensures c.bits.ensures.slots
+    c.bits.ensures.value

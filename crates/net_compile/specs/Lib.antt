@@ -1,0 +1,6 @@
+pub mod Cycle
+pub mod Stands
+pub mod Pieces
+pub mod Lowered
+pub mod Compiles
+pub mod Quick
