@@ -5,7 +5,7 @@ ghost use Rattle.std.specs.Prelude.{◌≡◌, ◌≤◌, ◌<◌, ◌+◌, OnOk
 use dt_core::place::Place;
 use dt_core::text::Text;
 use message_text::telling::{Given, Telling};
-use netlist::design::{Base, Effect, Event, Shown};
+use netlist::design::{Base, Block, Effect, Event, Shown};
 use std::alloc::Global;
 use std::test::*;
 
@@ -119,5 +119,55 @@ fn a_block_is_told_at_once(rt: HostRuntime) -> Result<(), Fail> {
     assert_eq!(rt; fired.len(), 1);
     assert_eq!(rt; fired[0].stop, 0);
     assert_eq!(rt; fired[0].message.bytes(), b"n is  -56".as_slice());
+    Ok(())
+}
+
+#[test]
+fn blocks_are_told_in_order_and_cycle_after_cycle(rt: HostRuntime) -> Result<(), Fail> {
+    let alloc: Global = rt.alloc();
+    let said = Event {
+        condition: 0,
+        effect: Effect::Said(Text::copied(alloc, b"lost")?),
+    };
+    let first = Event {
+        condition: 0,
+        effect: Effect::Stopped(Place { token: 0, line: 1 }, false),
+    };
+    let more = Event {
+        condition: 0,
+        effect: Effect::Said(Text::copied(alloc, b"more")?),
+    };
+    let second = Event {
+        condition: 0,
+        effect: Effect::Stopped(Place { token: 0, line: 1 }, true),
+    };
+    let quiet = Block {
+        scope: 0,
+        events: vec![in alloc; first, said]?,
+    };
+    let loud = Block {
+        scope: 0,
+        events: vec![in alloc; more, second]?,
+    };
+    let blocks = vec![in alloc; quiet, loud]?;
+    let mut telling = Telling::new(alloc);
+    telling.tell_blocks(
+        alloc,
+        &blocks,
+        &[given(false), given(true), given(true), given(true)],
+    )?;
+    assert_eq!(rt; telling.fired_so_far().len(), 1);
+    telling.begin();
+    telling.tell_blocks(
+        alloc,
+        &blocks,
+        &[given(true), given(true), given(false), given(true)],
+    )?;
+    let fired = telling.fired();
+    assert_eq!(rt; fired.len(), 2);
+    assert_eq!(rt; fired[0].stop, 0);
+    assert_eq!(rt; fired[0].message.bytes(), b"".as_slice());
+    assert_eq!(rt; fired[1].stop, 1);
+    assert_eq!(rt; fired[1].message.bytes(), b"".as_slice());
     Ok(())
 }

@@ -1,3 +1,4 @@
 mod MessageExamples
 pub mod BlockLaws
+pub mod BlocksLaws
 pub mod RadixLaws

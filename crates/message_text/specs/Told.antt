@@ -1,8 +1,9 @@
 -- What the blocks of a design said in a cycle so far, and what an event is given. This project's own.
-use Rattle.std.specs.Prelude.{◌≡◌, ℕ, ◌+◌, ◌≤◌, ◌<◌, ◌^◌, Bool, if◌then◌else◌, List, [], ◌∷◌, ◌++◌, slice_index}
+use Rattle.std.specs.Prelude.{◌≡◌, ℕ, ◌+◌, ◌≤◌, ◌<◌, ◌^◌, Bool, true, if◌then◌else◌, List, [], ◌∷◌, ◌++◌, length, drop, slice_index}
 use Rattle.bit_ops.specs.Operators.{holds}
 use Rattle.dt_core.specs.declared.limits.TheConstants.{MAX_WIDTH}
-use Rattle.netlist.specs.Run.{Fired, block_fired, stop_count}
+use Rattle.netlist.specs.Plain.{PlainBlock}
+use Rattle.netlist.specs.Run.{Fired, block_fired, blocks_fired, stop_count}
 use Rattle.netlist.specs.Values.{width_at}
 use Rattle.netlist.specs.declared.design.Effect.{Effect}
 use Rattle.netlist.specs.declared.design.Effect.TheVariants as e
@@ -18,10 +19,11 @@ pub record Told : Type 0 where
 
 -- ---- what an event is given
 
--- the width and the value that an effect shows, if it shows one, are those of its node
+-- the width and the value that an effect shows, if it is done and shows one, are those of its node
 abbrev pub ShowsGiven : List Node → List ℕ → Effect → Given → Type 0
 ShowsGiven nodes xs (e.Said more) g = Unit {0}
-ShowsGiven nodes xs (e.Showed s) g = (g.width ≡ width_at nodes s.node) × (g.value ≡ slice_index xs s.node)
+ShowsGiven nodes xs (e.Showed s) g = g.done ≡ true
+    → (g.width ≡ width_at nodes s.node) × (g.value ≡ slice_index xs s.node)
 ShowsGiven nodes xs (e.Stopped place fatal) g = Unit {0}
 
 -- an event is given what is so where these are the values of the nodes
@@ -29,10 +31,10 @@ pub record IsGiven (nodes : List Node) (xs : List ℕ) (x : Event) (g : Given) :
   pub done : g.done ≡ holds (slice_index xs x.condition)
   pub shows : ShowsGiven nodes xs x.effect g
 
--- a value that is shown is one of its width
+-- a value that is shown is one of its width; of an event that isn't done nothing is asked
 abbrev pub FitsShown : Effect → Given → Type 0
 FitsShown (e.Said more) g = Unit {0}
-FitsShown (e.Showed s) g = (1 ≤ g.width) × (g.width ≤ MAX_WIDTH) × (g.value < 2 ^ g.width)
+FitsShown (e.Showed s) g = g.done ≡ true → (1 ≤ g.width) × (g.width ≤ MAX_WIDTH) × (g.value < 2 ^ g.width)
 FitsShown (e.Stopped place fatal) g = Unit {0}
 
 -- the same of each event of a block
@@ -45,6 +47,21 @@ abbrev pub FitAll : List Event → List Given → Type 0
 FitAll [] gs = Unit {0}
 FitAll (x ∷ es) [] = ⊥
 FitAll (x ∷ es) (g ∷ gs) = FitsShown x.effect g × FitAll es gs
+
+-- the same of each event of these blocks: those of a block come after those of the blocks before it
+abbrev pub AreGivenBlocks : List Node → List ℕ → List PlainBlock → List Given → Type 0
+AreGivenBlocks nodes xs [] gs = Unit {0}
+AreGivenBlocks nodes xs (b ∷ bs) gs =
+    AreGiven nodes xs b.events gs × AreGivenBlocks nodes xs bs (drop (length b.events) gs)
+
+abbrev pub FitBlocks : List PlainBlock → List Given → Type 0
+FitBlocks [] gs = Unit {0}
+FitBlocks (b ∷ bs) gs = FitAll b.events gs × FitBlocks bs (drop (length b.events) gs)
+
+-- the number of the stops of these blocks
+abbrev pub stops_of : List PlainBlock → ℕ
+stops_of [] = 0
+stops_of (b ∷ bs) = stop_count b.events + stops_of bs
 
 -- ---- what an event changes
 
@@ -62,6 +79,11 @@ TellsBlock old new es gs = (nodes : List Node) (xs : List ℕ) → AreGiven node
       text = [];
       fired = old.fired ++ block_fired nodes xs old.stop [] es;
     }
+
+-- what fires of these blocks is added
+abbrev pub TellsBlocks : Told → Told → List PlainBlock → List Given → Type 0
+TellsBlocks old new bs gs = (nodes : List Node) (xs : List ℕ) → AreGivenBlocks nodes xs bs gs
+    → new.fired ≡ old.fired ++ blocks_fired nodes xs old.stop bs
 
 -- a text is said, where that is done
 abbrev pub after_said : Bool → List ℕ → Told → Told

@@ -1,16 +1,17 @@
 //! What the clocked blocks say in a cycle, event by event, and the assertions that fire.
 
-ghost use Rattle.std.specs.Prelude.{◌≡◌, ◌≤◌, ◌<◌, ◌+◌, ◌^◌, [], OnOk, length, if◌then◌else◌};
+ghost use Rattle.std.specs.Prelude.{◌≡◌, ◌≤◌, ◌<◌, ◌+◌, ◌^◌, true, [], OnOk, drop, length, if◌then◌else◌};
 ghost use Rattle.netlist.specs.Message.{value_text};
-ghost use Rattle.netlist.specs.Run.{is_stop};
-ghost use Rattle.message_text.specs.Told.{FitAll, FitsShown, Tells, TellsBlock, after_said, after_stop};
+ghost use Rattle.netlist.specs.Fits.{event_count};
+ghost use Rattle.netlist.specs.Run.{is_stop, stop_count};
+ghost use Rattle.message_text.specs.Told as told;
 
 use crate::value::append_value;
 use dt_core::append::push;
 use dt_core::fault::NoMemory;
 use dt_core::limits::MAX_WIDTH;
 use dt_core::text::Text;
-use netlist::design::{Effect, Event, Shown};
+use netlist::design::{Block, Effect, Event, Shown};
 use std::alloc::Global;
 use std::marker::Model;
 use std::mem;
@@ -30,8 +31,8 @@ impl Model for Fired {
     ghost view = { λ f. record { stop = f.stop; message = f.message } };
 }
 
-/// What an event is given in a cycle: whether its condition isn't 0, and where it shows a node, that node's width and
-/// value.
+/// What an event is given in a cycle: whether its condition isn't 0, and where it is so and the event shows a node,
+/// that node's width and value. Where the condition is 0 the width and the value aren't looked at.
 #[derive(Clone, Copy)]
 pub struct Given {
     pub done: bool,
@@ -70,9 +71,9 @@ impl Telling {
     /// Goes on by the next event of a block: what fired so far and what fires from the event on is what fired after
     /// it and what fires from there on.
     pub fn tell(&mut self, alloc: Global, event: &Event, given: Given) -> Result<(), NoMemory>
-        requires fits { FitsShown event.now.effect given }
+        requires fits { told.FitsShown event.now.effect given }
         requires room { self.old.stop < u32.MAX }
-        ensures tells { OnOk result (Tells self.old self.new event.now given) }
+        ensures tells { OnOk result (told.Tells self.old self.new event.now given) }
         ensures stop { OnOk result
             (self.new.stop ≡ (if is_stop event.now.effect then self.old.stop + 1 else self.old.stop)) }
     {
@@ -90,10 +91,12 @@ impl Telling {
         events: &[Event],
         given: &[Given],
     ) -> Result<(), NoMemory>
-        requires fits { FitAll events.now given.now }
+        requires fits { told.FitAll events.now given.now }
         requires room { self.old.stop + length events.now ≤ u32.MAX }
         requires empty { self.old.text ≡ [] }
-        ensures { OnOk result (TellsBlock self.old self.new events.now given.now) }
+        ensures tells { OnOk result (told.TellsBlock self.old self.new events.now given.now) }
+        ensures stop { OnOk result (self.new.stop ≡ self.old.stop + stop_count events.now) }
+        ensures empty { OnOk result (self.new.text ≡ []) }
     {
         for (k, event) in events.iter().enumerate() {
             self.tell(alloc, event, given[k])?;
@@ -102,9 +105,32 @@ impl Telling {
         Ok(())
     }
 
+    /// Goes through the events of these blocks in order. Each event is given something; what the events of a block are
+    /// given comes after what those of the blocks before it are given.
+    pub fn tell_blocks(
+        &mut self,
+        alloc: Global,
+        blocks: &[Block],
+        given: &[Given],
+    ) -> Result<(), NoMemory>
+        requires fits { told.FitBlocks blocks.now given.now }
+        requires room { self.old.stop + event_count blocks.now ≤ u32.MAX }
+        requires empty { self.old.text ≡ [] }
+        ensures tells { OnOk result (told.TellsBlocks self.old self.new blocks.now given.now) }
+        ensures stop { OnOk result (self.new.stop ≡ self.old.stop + told.stops_of blocks.now) }
+        ensures empty { OnOk result (self.new.text ≡ []) }
+    {
+        let mut rest = given;
+        for block in blocks {
+            self.tell_block(alloc, &block.events, rest)?;
+            rest = given_after(rest, block.events.len());
+        }
+        Ok(())
+    }
+
     // Says a text, where that is done.
     fn say(&mut self, more: &[u8], done: bool) -> Result<(), NoMemory>
-        ensures { OnOk result (self.new ≡ after_said done more.now self.old) }
+        ensures { OnOk result (self.new ≡ told.after_said done more.now self.old) }
     {
         if done {
             push(&mut self.text, more)
@@ -115,9 +141,9 @@ impl Telling {
 
     // Shows the value of a node, where that is done.
     fn show(&mut self, shown: Shown, given: Given) -> Result<(), NoMemory>
-        requires wide { (1 ≤ given.width) × (given.width ≤ MAX_WIDTH) }
-        requires fits { given.value < 2 ^ given.width }
-        ensures { OnOk result (self.new ≡ after_said given.done
+        requires fits { given.done ≡ true
+            → (1 ≤ given.width) × (given.width ≤ MAX_WIDTH) × (given.value < 2 ^ given.width) }
+        ensures { OnOk result (self.new ≡ told.after_said given.done
             (value_text shown.base shown.fewest shown.signed given.width given.value) self.old) }
     {
         if given.done {
@@ -137,7 +163,7 @@ impl Telling {
     // Passes a stop, which fires where that is done.
     fn pass_stop(&mut self, alloc: Global, done: bool) -> Result<(), NoMemory>
         requires { self.old.stop < u32.MAX }
-        ensures { OnOk result (self.new ≡ after_stop done self.old) }
+        ensures { OnOk result (self.new ≡ told.after_stop done self.old) }
     {
         let stop = self.stop;
         self.stop += 1;
@@ -158,10 +184,35 @@ impl Telling {
         self.text.clear();
     }
 
+    /// Begins again for the next cycle: what was told is forgotten. It takes no memory, and the room of the text and of
+    /// the list of what fired stays.
+    pub fn begin(&mut self)
+        ensures { self.new ≡ record { stop = 0; text = []; fired = [] } }
+    {
+        self.stop = 0;
+        self.text.clear();
+        self.fired.clear();
+    }
+
+    /// The assertions that fired so far, in order.
+    pub fn fired_so_far(&self) -> &[Fired]
+        ensures { result.now ≡ self.now.fired }
+    {
+        &self.fired
+    }
+
     /// The assertions that fired, in order.
     pub fn fired(self) -> Vec<Fired>
         ensures { result.items ≡ self.fired }
     {
         self.fired
     }
+}
+
+// What is given after the first so many events.
+fn given_after(given: &[Given], count: usize) -> &[Given]
+    requires { count ≤ length given.now }
+    ensures { result.now ≡ drop count given.now }
+{
+    &given[count..]
 }

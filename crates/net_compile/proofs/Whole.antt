@@ -1,16 +1,17 @@
 -- What a whole program promises.
-use Rattle.std.proofs.Common.{◌≡◌, ℕ, ◌<◌, List, length, sym, ap, ◌∙◌, subst, arith}
+use Rattle.std.proofs.Common.{◌≡◌, ℕ, ◌<◌, List, length, refl, sym, ap, ◌∙◌, subst, arith}
 use Rattle.std.specs.Prelude.{Option, None, slice_index_or}
 use Rattle.netlist.specs.Design.{Flat}
 use Rattle.netlist.specs.Run.{all_words}
 use Rattle.netlist.specs.Values.{width_at}
 use Rattle.netlist.proofs.Puts.{some_with}
 use Rattle.step_program.specs.Values.{slot_value}
-use Rattle.step_program.specs.Fits.{IsSlot}
+use Rattle.step_program.specs.Fits.{IsSlot, is_narrow_slot}
 use Rattle.step_program.specs.Draft.{Draft}
 use Rattle.step_program.specs.Plan.{Plan, Carries, narrow_total, wide_total, ran}
 use Rattle.step_program.specs.Table.{Table, stands}
 use Rattle.step_program.specs.declared.step.Slot.{Slot}
+use Rattle.step_program.specs.declared.step.Slot.TheVariants as at
 use Rattle.net_compile.specs.Cycle.{Front, HasSlots, given_widths, slot_at}
 use Rattle.net_compile.specs.Stands.{Begins, Stands, NodesStand, node_number}
 use Rattle.net_compile.specs.Compiles.{ArePlaced, Compiles}
@@ -30,6 +31,10 @@ node f front d table slots nodes h count p n l =
     (p.1 n (omega (arith, l, count))) in
     record { slot = s.0; is = s.2; holds = h n s.0 s.1 }
 
+kind_stays : (t : Table) (s : Slot) → is_narrow_slot (stands t s) ≡ is_narrow_slot s
+kind_stays t (at.Narrow k) = refl
+kind_stays t (at.Wide k) = refl
+
 pub compiles : (f : Flat) (front : Front) (d : Draft) (p : Plan) (table : Table) (slots : List (Option Slot))
     (nodes : List Slot) → HasSlots (given_widths f) front → Begins front d → NodesStand f front d slots
     → length slots ≡ length f.nodes → Carries d p table → ArePlaced table slots nodes
@@ -42,6 +47,12 @@ compiles f front d p table slots nodes h b stand count carries placed = record {
   within = λ n l.
       let x : Node f front d table nodes n = node f front d table slots nodes stand count placed n l in
       subst (λ s. IsSlot (narrow_total p) (wide_total p) s) (sym x.is) (carries.within x.slot x.holds.there.placed);
+  kind = λ n l.
+      let x : Node f front d table nodes n = node f front d table slots nodes stand count placed n l in
+      ap is_narrow_slot x.is ∙ kind_stays table x.slot ∙ x.holds.there.kind;
+  fits = λ n c l.
+      let x : Node f front d table nodes n = node f front d table slots nodes stand count placed n l in
+      x.holds.fits c;
   value = λ n c l.
       let x : Node f front d table nodes n = node f front d table slots nodes stand count placed n l in
       let words : List (List ℕ) = all_words f.memories c.state.memories in

@@ -2,7 +2,7 @@
 use Rattle.std.proofs.Common.{◌≡◌, ℕ, suc, ◌+◌, ◌-◌, ◌*◌, ◌/◌, ◌%◌, ◌^◌, ◌<◌, ◌≤◌, List, [], ◌∷◌, ◌++◌, length, take, drop, set, get_or, refl, sym, ap, subst, ◌∙◌, arith, pow_pos, lit<}
 use Rattle.std.specs.List.{sum}
 use Rattle.std.proofs.Math.Nat.{add-mul-div_left, add-mul-mod_self_left, mod-eq_of_lt, div-eq_of_lt, pow-le-pow_right}
-use Rattle.std.proofs.lemmas.Nat.{pow-add, mul-add-lt, shl_whole, shr_below, shr_split}
+use Rattle.std.proofs.lemmas.Nat.{pow-add, mul-add-lt, shr_below, shr_split, shr-shr, mod-pow-add, mod_below}
 use Rattle.std.proofs.lemmas.List.{take_more_set, length-take-le, length-set, take_all, drop_more}
 use Rattle.std.proofs.lemmas.List.Sums.{sum_by-cons}
 use Rattle.packed_rows.specs.Packed.{Fits, packed, unpacked, number, word_count}
@@ -49,9 +49,58 @@ joined_fits b v c w fb fv =
     let less : v * 2 ^ c + b < 2 ^ c * 2 ^ w = mul-add-lt v (2 ^ c) b (2 ^ w) fv fb in
     omega (arith, less, pow-add 2 c w)
 
--- as the machine computes it
-pub joined : (b v c w : ℕ) → c < 64 → w ≤ 64 → v < 2 ^ w → b + v * 2 ^ c % 2 ^ 128 ≡ b + v * 2 ^ c
-joined b v c w short few fits = ap (λ (n : ℕ). b + n) (shl_whole v w c 128 fits (omega arith))
+-- a value above the bits that are held
+pub above : (b v c : ℕ) → b < 2 ^ c → (b + v * 2 ^ c) / 2 ^ c ≡ v
+above b v c fits =
+    let none : b / 2 ^ c ≡ 0 = div-eq_of_lt fits in
+    let turned : v * 2 ^ c ≡ 2 ^ c * v = omega arith in
+    ap (λ (n : ℕ). (b + n) / 2 ^ c) turned ∙ add-mul-div_left b v (pow_pos c) ∙ omega (arith, none)
+
+beneath : (b v c : ℕ) → b < 2 ^ c → (b + v * 2 ^ c) % 2 ^ c ≡ b
+beneath b v c fits =
+    let turned : v * 2 ^ c ≡ 2 ^ c * v = omega arith in
+    ap (λ (n : ℕ). (b + n) % 2 ^ c) turned ∙ add-mul-mod_self_left b (2 ^ c) v ∙ mod-eq_of_lt fits
+
+in_word : (b v c d : ℕ) → b < 2 ^ c → (b + v * 2 ^ c) % 2 ^ (d + c) ≡ v % 2 ^ d * 2 ^ c + b
+in_word b v c d fits =
+    mod-pow-add (b + v * 2 ^ c) d c ∙ ap (λ (n : ℕ). n % 2 ^ d * 2 ^ c + (b + v * 2 ^ c) % 2 ^ c) (above b v c fits)
+    ∙ ap (λ (n : ℕ). v % 2 ^ d * 2 ^ c + n) (beneath b v c fits)
+
+-- the machine drops the bits that go beyond the word
+pub low_of_word : (b v c : ℕ) → c < 64 → b < 2 ^ c → b + v * 2 ^ c % 2 ^ 64 ≡ (b + v * 2 ^ c) % 2 ^ 64
+low_of_word b v c less fits =
+    let whole : 64 - c + c ≡ 64 = omega arith in
+    let its : (b + v * 2 ^ c) % 2 ^ 64 ≡ v % 2 ^ (64 - c) * 2 ^ c + b =
+    ap (λ (k : ℕ). (b + v * 2 ^ c) % 2 ^ k) (sym whole) ∙ in_word b v c (64 - c) fits in
+    let alone : (0 + v * 2 ^ c) % 2 ^ 64 ≡ v % 2 ^ (64 - c) * 2 ^ c + 0 =
+    ap (λ (k : ℕ). (0 + v * 2 ^ c) % 2 ^ k) (sym whole) ∙ in_word 0 v c (64 - c) (pow_pos c) in
+    let same : v * 2 ^ c % 2 ^ 64 ≡ v % 2 ^ (64 - c) * 2 ^ c = omega (arith, alone) in
+    omega (arith, its, same)
+
+pub low_below : (b v c : ℕ) → c < 64 → b < 2 ^ c → b + v * 2 ^ c % 2 ^ 64 < 2 ^ 64
+low_below b v c less fits =
+    let below : (b + v * 2 ^ c) % 2 ^ 64 < 2 ^ 64 = mod_below (b + v * 2 ^ c) (2 ^ 64) (pow_pos 64) in
+    omega (arith, low_of_word b v c less fits, below)
+
+-- and those are the value's high bits
+pub high_of_word : (b v c : ℕ) → c < 64 → b < 2 ^ c → v / 2 ^ (64 - c) ≡ (b + v * 2 ^ c) / 2 ^ 64
+high_of_word b v c less fits =
+    let whole : c + (64 - c) ≡ 64 = omega arith in
+    ap (λ (n : ℕ). n / 2 ^ (64 - c)) (sym (above b v c fits)) ∙ shr-shr (b + v * 2 ^ c) c (64 - c)
+    ∙ ap (λ (k : ℕ). (b + v * 2 ^ c) / 2 ^ k) whole
+
+pub shifted_twice : (v c : ℕ) → c < 64 → v / 2 ^ 1 / 2 ^ (63 - c) ≡ v / 2 ^ (64 - c)
+shifted_twice v c less =
+    let whole : 1 + (63 - c) ≡ 64 - c = omega arith in
+    shr-shr v 1 (63 - c) ∙ ap (λ (k : ℕ). v / 2 ^ k) whole
+
+-- where a value has room, no bits go beyond the word
+pub all_in_word : (b v c w : ℕ) → c + w < 64 → b < 2 ^ c → v < 2 ^ w → (b + v * 2 ^ c) % 2 ^ 64 ≡ b + v * 2 ^ c
+all_in_word b v c w less fb fv =
+    let few : c + w ≤ 64 = omega arith in
+    let wide : 2 ^ (c + w) ≤ 2 ^ 64 = pow-le-pow_right (lit< tt) few in
+    let fits : b + v * 2 ^ c < 2 ^ (c + w) = joined_fits b v c w fb fv in
+    mod-eq_of_lt (omega (arith, wide, fits))
 
 -- a number by its high and its low part, above others
 spread : (a p w high low t : ℕ) → high * w + low ≡ t → a + p * low + p * w * high ≡ a + p * t

@@ -1,11 +1,11 @@
 -- Values that are taken from words one after another.
 use Rattle.std.proofs.Common.{◌≡◌, ℕ, ◌+◌, ◌-◌, ◌*◌, ◌/◌, ◌%◌, ◌^◌, ◌<◌, ◌≤◌, List, length, drop, get_or, sym, ap, subst, ◌∙◌, arith, pow_pos, add_comm}
 use Rattle.std.proofs.Math.Nat.{add-mul-div_left, add-mul-mod_self_left}
-use Rattle.std.proofs.lemmas.Nat.{pow-add, shr-shr, shl_whole, shr_below, mod-pow-add, mod_below}
+use Rattle.std.proofs.lemmas.Nat.{pow-add, shr-shr, shl_whole, shr_below, mod-pow-add, mod_below, shr_split}
 use Rattle.packed_rows.specs.Packed.{number}
 use Rattle.packed_rows.specs.Words.{left}
 use Rattle.packed_rows.specs.declared.held.Held.{Held}
-use Rattle.packed_rows.proofs.PackLaws.{from_place}
+use Rattle.packed_rows.proofs.PackLaws.{above, from_place}
 
 -- ---- bits of what is held
 
@@ -33,6 +33,18 @@ word_more words k b c x less is =
     let opened : number (drop k words) ≡ x + 2 ^ 64 * m = ap number (from_place words k x less is) in
     let power : 2 ^ (c + 64) ≡ 2 ^ c * 2 ^ 64 = pow-add 2 c 64 in
     rw (opened, power) (omega arith)
+
+-- the bits of a word that are left after a value
+pub rest_of_word : (b x c d w : ℕ) → c + d ≡ w → b < 2 ^ c → x / 2 ^ d ≡ (b + x * 2 ^ c) / 2 ^ w
+rest_of_word b x c d w whole fits =
+    ap (λ (n : ℕ). n / 2 ^ d) (sym (above b x c fits)) ∙ shr-shr (b + x * 2 ^ c) c d
+    ∙ ap (λ (k : ℕ). (b + x * 2 ^ c) / 2 ^ k) whole
+
+-- the lowest bits of a word are those of a number that goes on above it
+pub low_in_word : (t w : ℕ) → w ≤ 64 → t % 2 ^ 64 % 2 ^ w ≡ t % 2 ^ w
+low_in_word t w few =
+    let parts : t % 2 ^ 64 + 2 ^ 64 * (t / 2 ^ 64) ≡ t = omega (arith, shr_split t 64) in
+    sym (taken_low (t % 2 ^ 64) 64 w (t / 2 ^ 64) few) ∙ ap (λ (n : ℕ). n % 2 ^ w) parts
 
 -- ---- what is held after a value
 

@@ -1,6 +1,6 @@
 //! Rows of values that are kept packed.
 //!
-//! Below: `dt_core` (limits, faults). Above: `dessert` keeps the last rows of a run in two of these.
+//! Below: `dt_core` (limits, faults). Above: what keeps the last rows of a run.
 //! Promise: `PackedRows` is a list of rows of the same widths. A row is kept in as many words of 64 bits as all widths
 //! together need, and is read as it was pushed. All memory is taken at the start, for as many rows as are asked for.
 //! Not said: that memory is enough.

@@ -5,7 +5,7 @@ ghost use Rattle.std.specs.List.{All, sum};
 ghost use Rattle.packed_rows.specs.Packed.{Fits, number, packed, word_count};
 ghost use Rattle.packed_rows.specs.Words.{IsHeld, place, written};
 
-use crate::held::Held;
+use crate::held::{Held, high_part, low_part};
 use dt_core::limits::MAX_WIDTH;
 
 /// Packs a row of values of these widths into words, the first value at the lowest bits of the first word.
@@ -54,18 +54,18 @@ fn put_few(words: &mut [u64], held: Held, value: u64, width: u32) -> Held
     ensures place { place result ≡ place held + width }
     ensures written { written words.new result ≡ written words.old held + 2 ^ place held * value }
 {
-    let bits = held.bits + (u128::from(value) << held.count);
+    let low = low_part(held, value);
     let count = held.count + width;
     if count < 64 {
         return Held {
-            bits,
+            bits: low,
             count,
             next: held.next,
         };
     }
-    words[held.next] = low_word(bits);
+    words[held.next] = low;
     Held {
-        bits: bits >> 64,
+        bits: high_part(held.count, value),
         count: count - 64,
         next: held.next + 1,
     }
@@ -78,7 +78,7 @@ fn put_last(words: &mut [u64], held: Held)
     ensures { number words.new ≡ written words.old held }
 {
     if held.count > 0 {
-        words[held.next] = held.bits as u64;
+        words[held.next] = held.bits;
     }
 }
 

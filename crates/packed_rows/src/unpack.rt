@@ -5,7 +5,7 @@ ghost use Rattle.std.specs.List.{All, sum};
 ghost use Rattle.packed_rows.specs.Packed.{number, unpacked};
 ghost use Rattle.packed_rows.specs.Words.{IsHeld, left, room};
 
-use crate::held::Held;
+use crate::held::{Held, high_part, low_part};
 use dt_core::limits::MAX_WIDTH;
 
 /// Unpacks the values of these widths from words, the first from the lowest bits of the first word.
@@ -65,41 +65,40 @@ fn take_few(words: &[u64], held: Held, width: u32) -> Taken
     ensures value { result.value ≡ left words.now held % 2 ^ width }
     ensures left { left words.now result.held ≡ left words.now held / 2 ^ width }
 {
-    if held.count < width {
-        split(filled(words, held), width)
-    } else {
-        split(held, width)
+    if width <= held.count {
+        return split(held, width);
+    }
+    let word = words[held.next];
+    let count = held.count + 64 - width;
+    Taken {
+        value: u128::from(lowest(low_part(held, word), width)),
+        held: Held {
+            bits: high_part(count, word),
+            count,
+            next: held.next + 1,
+        },
     }
 }
 
-// What is held with one word more.
-fn filled(words: &[u64], held: Held) -> Held
-    requires held { IsHeld held }
-    requires more { held.next < length words.now }
-    ensures bits { result.bits < 2 ^ result.count }
-    ensures count { result.count ≡ held.count + 64 }
-    ensures room { room words.now result ≡ room words.now held }
-    ensures left { left words.now result ≡ left words.now held }
+// The lowest bits of a word, one at least.
+fn lowest(word: u64, count: u32) -> u64
+    requires { (1 ≤ count) × (count ≤ 64) }
+    ensures { result ≡ word % 2 ^ count }
 {
-    Held {
-        bits: held.bits + (u128::from(words[held.next]) << held.count),
-        count: held.count + 64,
-        next: held.next + 1,
-    }
+    word & (u64::MAX >> (64 - count))
 }
 
 // Splits the lowest bits from those that are held.
 fn split(held: Held, width: u32) -> Taken
-    requires wide { width ≤ 64 }
-    requires enough { (width ≤ held.count) × (held.count < width + 64) }
-    requires bits { held.bits < 2 ^ held.count }
+    requires held { IsHeld held }
+    requires enough { width ≤ held.count }
     ensures value { result.value ≡ held.bits % 2 ^ width }
     ensures bits { result.held.bits ≡ held.bits / 2 ^ width }
     ensures count { result.held.count + width ≡ held.count }
     ensures next { result.held.next ≡ held.next }
 {
     Taken {
-        value: held.bits & ((1 << width) - 1),
+        value: u128::from(held.bits & ((1 << width) - 1)),
         held: Held {
             bits: held.bits >> width,
             count: held.count - width,

@@ -33,3 +33,33 @@ fn rows_may_have_no_values(rt: HostRuntime) -> Result<(), Fail> {
     assert_eq!(rt; rows.count(), 1);
     Ok(())
 }
+
+#[test]
+fn words_end_within_values_and_between_them(rt: HostRuntime) -> Result<(), Fail> {
+    let alloc: Global = rt.alloc();
+    let mut rows = PackedRows::new(alloc, vec![in alloc; 64, 1, 63, 33, 64, 0, 32]?, 1)?;
+    let mut row = [0u128; 7];
+    rows.push(&[
+        0x8000_0000_0000_0001,
+        1,
+        1 << 62,
+        1 << 32,
+        0xfedc_ba98_7654_3210,
+        0,
+        5,
+    ]);
+    rows.read(0, &mut row);
+    assert_eq!(rt;
+        row,
+        [
+            0x8000_0000_0000_0001,
+            1,
+            1 << 62,
+            1 << 32,
+            0xfedc_ba98_7654_3210,
+            0,
+            5
+        ]
+    );
+    Ok(())
+}
