@@ -5,8 +5,9 @@ use Rattle.std.specs.Io.KnownBytes.{Appends, Keeps}
 use Rattle.std.proofs.Math.Seq.{take-length}
 use Rattle.dt_core.specs.Causes.{AppendsPart}
 use Rattle.dessert.specs.Outside.{SinkAt, Outside}
-use Rattle.dessert.specs.Report.{write_failed_text}
-use Rattle.dessert.specs.Answer.{Layers, Status, quiet, failure, usage, design, input, file, reading, writing, reporting, memory, Done, Due, OthersStand, Answers, allowed}
+use Rattle.talk.specs.declared.answer.Answer.TheVariants as a
+use Rattle.talk.specs.Report.{report_text}
+use Rattle.dessert.specs.Answer.{Layers, Status, quiet, failure, usage, design, input, file, reading, writing, reporting, memory, Done, Due, OthersStand, Answers}
 use Rattle.dessert.specs.Calls.Writing.{done_status, IsLeft, Took, Wrote, Reported, Delivered}
 
 -- bytes that are kept grow by none
@@ -58,12 +59,12 @@ module _ (L : Layers) (words : List (List ℕ)) (old new : Outside) where
   plain_answers status report result d s k w = wrote_answers status [] report result d s (kept_appends old.out.held new.out.held k) w
 
   -- no memory before anything was written
-  pub memory_answers : (job : L.Job) → L.words words ≡ allowed job → (result : Status) → result ≡ memory → OthersStand L words old new memory
+  pub memory_answers : (job : L.Job) → L.Asks words job → (result : Status) → result ≡ memory → OthersStand L words old new memory
       → Keeps old.out.held new.out.held → IsLeft old.report new.report → Answers L words old new result
   memory_answers job e result h s k r = subst (Answers L words old new) (sym h) ((job, e), r.1, inl (s, k, r.0))
 
   -- nothing was written to `out`, and the report whole or in part, or not at all as there was no memory
-  pub reported_answers : (job : L.Job) → L.words words ≡ allowed job → (status : Status) (report : List ℕ) (result : Status)
+  pub reported_answers : (job : L.Job) → L.Asks words job → (status : Status) (report : List ℕ) (result : Status)
       → Due L words old new status [] report → OthersStand L words old new status → Keeps old.out.held new.out.held
       → Reported report status result old.report new.report → Answers L words old new result
   reported_answers job e status report result d s k (inl w) =
@@ -85,12 +86,12 @@ module _ (L : Layers) (words : List (List ℕ)) (old new : Outside) where
       → Delivered out report (done_status fired) result old.out new.out old.report new.report → Answers L words old new result
   delivered_answers fired out report result d f s (inl (a, inl m)) =
       subst (Answers L words old new) (sym m.0)
-      ((d.job, d.ready.words_are), m.1.1, inr (done_status fired, out, report, done_due fired out report d, done_stands fired (f, s, a.1), whole_part old.out.held new.out.held out a.0, none_part old.report.held new.report.held report m.1.0))
+      ((d.job, d.ready.asked), m.1.1, inr (done_status fired, out, report, done_due fired out report d, done_stands fired (f, s, a.1), whole_part old.out.held new.out.held out a.0, none_part old.report.held new.report.held report m.1.0))
   delivered_answers fired out report result d f s (inl (a, inr w)) =
       wrote_answers (done_status fired) out report result (done_due fired out report d) (done_stands fired (f, s, a.1)) a.0 w
   delivered_answers fired out report result d f s (inr (inl w)) =
-      wrote_answers writing (take w.0.1.0 out) write_failed_text result
+      wrote_answers writing (take w.0.1.0 out) (report_text a.OutputFailed) result
       (record { fired = fired; whole = out; was = report; count = w.0.1.0; did = d; rose = w.0.0; front = refl; report_is = refl }) (f, s) w.0.1.1 w.1
   delivered_answers fired out report result d f s (inr (inr w)) =
       subst (Answers L words old new) (sym w.0)
-      ((d.job, d.ready.words_are), w.2.1, inr (done_status fired, out, report, done_due fired out report d, done_stands fired (f, s, w.1.1), w.1.0, none_part old.report.held new.report.held report w.2.0))
+      ((d.job, d.ready.asked), w.2.1, inr (done_status fired, out, report, done_due fired out report d, done_stands fired (f, s, w.1.1), w.1.0, none_part old.report.held new.report.held report w.2.0))

@@ -1,19 +1,25 @@
 -- Where all is well outside, the answer is 0, 1 or 9.
 use Rattle.std.proofs.Common.{◌≡◌, ℕ, ◌≤◌, List, [], ◌∷◌, ◌++◌, length, Bool, true, false, IsTrue, refl, sym, ap, subst, ◌∙◌, inl, inr, ◌⊎◌, arith, append-nil}
-use Rattle.std.specs.Prelude.{Option, Some, None, Ok, Err}
+use Rattle.std.specs.Prelude.{Option, Some, None}
 use Rattle.std.specs.Io.KnownBytes.{Consumes, IsAtEnd}
 use Rattle.vl_tree.specs.Tree.{Module}
-use Rattle.vl_meaning.specs.Objects.{data_inputs}
 use Rattle.vl_front.specs.OneModule.{IsOneModule}
-use Rattle.vl_front.proofs.Exclusive.{no_fault}
-use Rattle.stim.specs.Stimulus.{IsStimulus}
+use Rattle.vl_front.proofs.Exclusive.{no_fault, no_lack}
+use Rattle.stimulus.specs.declared.refusal.RefusalKind.TheVariants as k
+use Rattle.stimulus.specs.declared.refusal.Refusal.{Refusal}
+use Rattle.stimulus.specs.Refusals.{is_truncated}
+use Rattle.stimulus.specs.Stimulus as text
+use Rattle.stimulus.proofs.GluedLaws.{stays_refused}
+use Rattle.talk.specs.Words.{Job, Asks}
+use Rattle.talk.proofs.WordsLaws.{one_job, bad_is_no_line}
 use Rattle.dt_io.specs.Files.{IsLong}
 use Rattle.dt_core.specs.declared.limits.TheConstants.{MAX_FILE}
 use Rattle.dessert.specs.Outside.{FilesAt, Outside}
-use Rattle.dessert.specs.Answer.{Status, quiet, failure, usage, design, input, file, reading, writing, reporting, memory, number, allowed, bad, refused, Loaded, Answers}
-use Rattle.dessert.specs.Words.{Job, words_of}
+use Rattle.dessert.specs.Answer.{Status, quiet, failure, usage, design, input, file, reading, writing, reporting, memory, number, Loaded, Answers}
+use Rattle.talk.specs.Words.{top_of, files_of}
+use Rattle.dessert.specs.Inputs.{inputs_of}
 use Rattle.dessert.specs.Sources.{design_text}
-use Rattle.dessert.specs.Outcome.{layers, Design, AreDesign, AreRefused, Judges}
+use Rattle.dessert.specs.Outcome.{layers, Design, AreDesign, AreRefused}
 use Rattle.dessert.specs.Complete.{AllWell}
 
 -- all that was left was taken
@@ -57,53 +63,61 @@ module _ (shelf : FilesAt) (is_told : shelf.told ≡ true) where
   none_long (b ∷ before) name after (g ∷ files) h l = none_long before name after files h.2 l
 
 module _ (words : List (List ℕ)) (old new : Outside) (w : AllWell words old new) where
-  same_job : (other : Job) → words_of words ≡ allowed other → other ≡ w.job
-  same_job other e = let s : allowed other ≡ allowed w.job = sym e ∙ w.asked in cc
+  same_job : (other : Job) → Asks words other → other ≡ w.job
+  same_job other e = one_job words other w.job e w.asked
 
   -- the files that a job loads hold the module's text
-  is_module : (j : Job) (files : List (List ℕ)) → words_of words ≡ allowed j → Loaded old.files j.files files → IsOneModule (design_text files) w.the_module
+  is_module : (j : Job) (files : List (List ℕ)) → Asks words j → Loaded old.files (files_of j) files → IsOneModule (design_text files) (top_of j) w.the_module
   is_module j files e l =
-      let h : Loaded old.files j.files w.files = subst (λ (x : Job). Loaded old.files x.files w.files) (sym (same_job j e)) w.loaded in
-      subst (λ (x : List (List ℕ)). IsOneModule (design_text x) w.the_module) (sym (same_files old.files w.is_told j.files files w.files h l)) w.design
+      let s = same_job j e in
+      let h : Loaded old.files (files_of j) w.files = subst (λ (x : Job). Loaded old.files (files_of x) w.files) (sym s) w.loaded in
+      let d : IsOneModule (design_text w.files) (top_of j) w.the_module = subst (λ (x : Job). IsOneModule (design_text w.files) (top_of x) w.the_module) (sym s) w.design in
+      subst (λ (x : List (List ℕ)). IsOneModule (design_text x) (top_of j) w.the_module) (sym (same_files old.files w.is_told (files_of j) files w.files h l)) d
 
   -- an accepted design is the module
-  the_top : (j : Job) (files : List (List ℕ)) (d : Design) → words_of words ≡ allowed j → Loaded old.files j.files files → AreDesign j files d → d.top ≡ w.the_module
+  the_top : (j : Job) (files : List (List ℕ)) (d : Design) → Asks words j → Loaded old.files (files_of j) files → AreDesign j files d → d.top ≡ w.the_module
   the_top j files d e l a = sym (a.is_design.only w.the_module (is_module j files e l))
 
-  no_refusal : (j : Job) (files : List (List ℕ)) (h : List ℕ) → words_of words ≡ allowed j → Loaded old.files j.files files → AreRefused j files h → ⊥
-  no_refusal j files h e l (inl f) = no_fault (design_text files) w.the_module f.0 (is_module j files e l) f.1
-  no_refusal j files h e l (inr n) = n.0.none w.the_module (is_module j files e l)
+  no_refusal : (j : Job) (files : List (List ℕ)) (h : List ℕ) → Asks words j → Loaded old.files (files_of j) files → AreRefused j files h → ⊥
+  no_refusal j files h e l (inl f) = no_fault (design_text files) (top_of j) w.the_module f.0 (is_module j files e l) f.1
+  no_refusal j files h e l (inr (inl t)) = no_lack (design_text files) (top_of j) w.the_module t.0 (is_module j files e l) t.1
+  no_refusal j files h e l (inr (inr n)) = n.0.none w.the_module (is_module j files e l)
 
   -- the stimulus isn't refused
-  no_short : (job : Job) (h bytes : List ℕ) (d : Design) → d.top ≡ w.the_module → Consumes old.source.left new.source.left bytes → IsAtEnd new.source.left → Judges job d bytes (refused true h) → ⊥
-  no_short job h bytes d e c a j =
-      let t = took_whole old.source.left new.source.left w.bytes bytes w.left c a in
-      j.1 (w.rows, subst (λ (x : Module). IsStimulus (data_inputs x) w.rows bytes) (sym e) (subst (IsStimulus (data_inputs w.the_module) w.rows) (sym t) w.stimulus))
+  module _ (r : Refusal) (bytes : List ℕ) (top : Module) (e : top ≡ w.the_module) (c : Consumes old.source.left new.source.left bytes)
+      (j : text.stimulus (inputs_of top) bytes ≡ text.refused r) where
+    refused_there : text.stimulus (inputs_of w.the_module) bytes ≡ text.refused r
+    refused_there = subst (λ (x : Module). text.stimulus (inputs_of x) bytes ≡ text.refused r) e j
 
-  no_other : (job : Job) (h bytes : List ℕ) (d : Design) → d.top ≡ w.the_module → Consumes old.source.left new.source.left bytes → Judges job d bytes (refused false h) → ⊥
-  no_other job h bytes d e c j =
-      let t = took_front old.source.left new.source.left w.bytes bytes w.left c in
-      j.0 (t.0, w.rows, subst (λ (x : Module). IsStimulus (data_inputs x) w.rows (bytes ++ t.0)) (sym e) (subst (IsStimulus (data_inputs w.the_module) w.rows) t.1 w.stimulus))
+    no_short : IsAtEnd new.source.left → ⊥
+    no_short a =
+        let t = took_whole old.source.left new.source.left w.bytes bytes w.left c a in
+        let s : text.refused r ≡ text.rows w.rows = sym refused_there ∙ ap (text.stimulus (inputs_of w.the_module)) t ∙ w.stimulus in absurd cc
 
-  no_input : (h : List ℕ) (short : Bool) (job : Job) (bytes : List ℕ) (d : Design) → d.top ≡ w.the_module → Consumes old.source.left new.source.left bytes → (IsTrue short → IsAtEnd new.source.left)
-      → Judges job d bytes (refused short h) → ⊥
-  no_input h true job bytes d e c a j = no_short job h bytes d e c (a refl) j
-  no_input h false job bytes d e c a j = no_other job h bytes d e c j
+    no_other : (r.kind ≡ k.Truncated → ⊥) → ⊥
+    no_other n =
+        let t = took_front old.source.left new.source.left w.bytes bytes w.left c in
+        let f = stays_refused (inputs_of w.the_module) bytes t.0 r refused_there n in
+        let s : text.refused r ≡ text.rows w.rows = sym f ∙ ap (text.stimulus (inputs_of w.the_module)) (sym t.1) ∙ w.stimulus in absurd cc
 
-  no_file : (before : List (List ℕ)) (name : List ℕ) (after : List (List ℕ)) (job : Job) → words_of words ≡ allowed job → job.files ≡ before ++ name ∷ after → IsLong (old.files.content name) MAX_FILE → ⊥
+    no_input : (b : Bool) → is_truncated r.kind ≡ b → (IsTrue b → IsAtEnd new.source.left) → ⊥
+    no_input true t a = no_short (a refl)
+    no_input false t a = no_other (λ n. let s : true ≡ false = sym (ap is_truncated n) ∙ t in absurd cc)
+
+  no_file : (before : List (List ℕ)) (name : List ℕ) (after : List (List ℕ)) (job : Job) → Asks words job → files_of job ≡ before ++ name ∷ after → IsLong (old.files.content name) MAX_FILE → ⊥
   no_file before name after job e n l =
-      let h : Loaded old.files job.files w.files = subst (λ (x : Job). Loaded old.files x.files w.files) (sym (same_job job e)) w.loaded in
+      let h : Loaded old.files (files_of job) w.files = subst (λ (x : Job). Loaded old.files (files_of x) w.files) (sym (same_job job e)) w.loaded in
       none_long old.files w.is_told before name after w.files (subst (λ (x : List (List ℕ)). Loaded old.files x w.files) n h) l
 
   pub ends : (s : Status) → Answers layers words old new s → (number s ≡ 0) ⊎ ((number s ≡ 1) ⊎ (number s ≡ 9))
   ends quiet a = inl refl
   ends failure a = inr (inl refl)
-  ends usage a = let b = a.3.1 in let s : bad ≡ allowed w.job = sym b.words_are ∙ w.asked in absurd cc
-  ends design a = let b = a.3.1 in absurd (no_refusal b.job b.files a.2 b.words_are b.loaded b.refused)
+  ends usage a = let b = a.3.1 in absurd (bad_is_no_line words b.bad_word b.is_first_bad (w.job, w.asked))
+  ends design a = let b = a.3.1 in absurd (no_refusal b.job b.files a.2 b.asked b.loaded b.refused)
   ends input a =
       let b = a.3.1 in
-      absurd (no_input a.2 b.short b.job b.bytes b.the_design (the_top b.job b.ready.files b.the_design b.ready.words_are b.ready.loaded b.ready.accepted) b.taken b.at_end b.judged)
-  ends file a = let b = a.3.1 in elim b.cause [ inl c ↦ absurd (w.loads c.0.0) | inr c ↦ absurd (no_file b.before b.name b.after b.job b.words_are b.names_are (c.0.0 w.is_told).0) ]
+      absurd (no_input b.judged.0 b.bytes b.the_design.top (the_top b.job b.ready.files b.the_design b.ready.asked b.ready.loaded b.ready.accepted) b.taken b.judged.1 b.short (sym b.judged.2) b.at_end)
+  ends file a = let b = a.3.1 in elim b.cause [ inl c ↦ absurd (w.loads c.0.0) | inr c ↦ absurd (no_file b.before b.name b.after b.job b.asked b.names_are (c.0.0 w.is_told).0) ]
   ends reading a = absurd (w.reads a.3.1.rose)
   ends writing a = absurd (w.writes a.3.rose)
   ends reporting a = absurd (w.reports a.0)

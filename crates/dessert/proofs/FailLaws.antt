@@ -6,7 +6,9 @@ use Rattle.flat_ir.specs.FlatRun.{Flat, flat_state, flat_next}
 use Rattle.flat_ir.specs.Shown.{flat_scope, flat_shown}
 use Rattle.vcd_text.specs.Vcd.{vcd_text}
 use Rattle.dessert.specs.Outside.{SinkAt}
-use Rattle.dessert.specs.Report.{stop_of, failure_text, write_failed_text}
+use Rattle.talk.specs.declared.answer.Answer.TheVariants as a
+use Rattle.talk.specs.Report.{report_text, failure_text}
+use Rattle.dessert.specs.Reported.{stop_of}
 use Rattle.dessert.specs.Answer.{Status, failure, writing, memory}
 use Rattle.dessert.specs.Sources.{Origins}
 use Rattle.dessert.specs.Outcome.{from_on, window_start}
@@ -102,7 +104,7 @@ module _ (f : Flat) (rows : List (List ℕ)) (p : Progress) (x : Failure) (is : 
     both_written a t = settles_by (inl (subst (Took o o') (wave_is (window_start lag x.cycle)) a, t))
 
     -- a front of the waveform was written, and then the line that says so
-    pub wave_failed : Broke o o' (wave_until f seen (window_start lag x.cycle) (length seen)) → Wrote write_failed_text writing result h h'
+    pub wave_failed : Broke o o' (wave_until f seen (window_start lag x.cycle) (length seen)) → Wrote (report_text a.OutputFailed) writing result h h'
         → RunIsWritten lag origins f rows p result o o' h h'
     wave_failed a t = settles_by (inr (inl (subst (Broke o o') (wave_is (window_start lag x.cycle)) a, t)))
 

@@ -4,6 +4,7 @@ pub mod RanLaws
 pub mod KeptLaws
 pub mod LoadLaws
 pub mod SpotLaws
+pub mod InputLaws
 pub mod RowsLaws
 pub mod StepsLaws
 pub mod StateLaws
@@ -11,5 +12,4 @@ pub mod ReplayLaws
 pub mod FailLaws
 pub mod SettledLaw
 pub mod TopLaws
-pub mod WordsLaws
 mod Examples

@@ -6,7 +6,7 @@ use Rattle.std.specs.Prelude.{Some, Ok, slice_index_or}
 use Rattle.dt_core.specs.declared.limits.TheConstants.{MAX_FILE}
 use Rattle.dessert.specs.Outside.{FilesAt}
 use Rattle.dessert.specs.Answer.{Loaded, HasFailed, IsTooLong}
-use Rattle.dessert.specs.Named.{named}
+use Rattle.talk.specs.Plain.{named}
 use Rattle.dessert.specs.Sources.{ends_line, closed, design_text, line_count}
 use Rattle.dessert.specs.Calls.Loading.{LoadsOne, IsLoaded, IsFront}
 

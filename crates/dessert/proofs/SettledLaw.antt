@@ -19,11 +19,15 @@ use Rattle.vl_meaning.specs.SameRun.{AllFit}
 use Rattle.vl_meaning.proofs.SameRunLaw.{same_run}
 use Rattle.vl_meaning.proofs.OneBit.{one_bit}
 use Rattle.vcd_text.specs.Vcd.{vcd_text}
-use Rattle.stim.specs.Stimulus.{IsStimulus}
-use Rattle.dessert.specs.Report.{stop_of, failure_text}
+use Rattle.talk.specs.Words.{Job}
+use Rattle.talk.specs.Report.{failure_text}
+use Rattle.stimulus.specs.Stimulus as text
+use Rattle.stimulus.specs.Fits.{AreRows}
+use Rattle.talk.specs.Words.{lag_of}
+use Rattle.dessert.specs.Inputs.{inputs_of}
+use Rattle.dessert.specs.Reported.{stop_of}
 use Rattle.dessert.specs.Outside.{Outside}
 use Rattle.dessert.specs.Answer.{Status, done, Ready, Answers}
-use Rattle.dessert.specs.Words.{Job}
 use Rattle.dessert.specs.Sources.{Origins}
 use Rattle.dessert.specs.Outcome.{layers, from_on, window_start, output_of, report_of, Judges}
 use Rattle.dessert.specs.Calls.Progress.{Failure, Progress}
@@ -32,6 +36,7 @@ use Rattle.dessert.specs.Calls.Again.{flat_shown_at}
 use Rattle.dessert.specs.Calls.Writing.{done_status, Delivered}
 use Rattle.dessert.specs.Calls.Written.{ended_by, out_by, text_by, RunIsWritten}
 use Rattle.dessert.proofs.Cases.{delivered_answers}
+use Rattle.dessert.proofs.InputLaws.{rows_fit_bits}
 use Rattle.dessert.proofs.FailLaws.{from_on_same}
 
 suc_some : (n : ℕ) → not (suc n == 0) ≡ true
@@ -86,20 +91,21 @@ module _ (f : Flat) (m : Module) (rows : List (List ℕ)) (s : StandsFor f m) (f
       ∙ ap (λ (c : Scope). vcd_text c first (from_on (shown_at m rows) first (suc (x.cycle - first)))) s.scope
 
   -- what comes of the bytes are the texts of the run
-  pub judged : (j : Job) (origins : Origins) (bytes : List ℕ) (state : List ℕ) (o : Option Failure) → IsStimulus (data_inputs m) rows bytes → Found f rows state o
-      → Judges j (record { top = m; origins = origins }) bytes (done (fired_by o) (out_by j.lag f rows o) (text_by j.lag m.name origins (length rows) o))
+  pub judged : (j : Job) (origins : Origins) (bytes : List ℕ) (state : List ℕ) (o : Option Failure) → text.stimulus (inputs_of m) bytes ≡ text.rows rows → Found f rows state o
+      → Judges j (record { top = m; origins = origins }) bytes (done (fired_by o) (out_by (lag_of j) f rows o) (text_by (lag_of j) m.name origins (length rows) o))
   judged j origins bytes state o i h =
       let e = first_by state o h in (
         rows,
         i,
         fired_is o ∙ ap (λ (c : Option ℕ). is_some c) e,
-        out_is j.lag state o h ∙ ap (output_of j.lag m rows) e,
-        text_is j.lag origins state o h ∙ ap (report_of j.lag (record { top = m; origins = origins }) rows) e,
+        out_is (lag_of j) state o h ∙ ap (output_of (lag_of j) m rows) e,
+        text_is (lag_of j) origins state o h ∙ ap (report_of (lag_of j) (record { top = m; origins = origins }) rows) e,
       )
 
--- rows of a stimulus fit the inputs of a module without static fault
-pub rows_fit : (m : Module) (rows : List (List ℕ)) (bytes : List ℕ) → is_sound m ≡ true → IsStimulus (data_inputs m) rows bytes → AllFit m rows
-rows_fit m rows bytes sound i = λ t h. subst (λ (ws : List ℕ). Fit ws (slice_index_or rows t [])) (sym (one_bit m sound)) (i.are_rows.fit t h)
+-- rows that fit a stimulus's inputs fit those of a module without static fault
+pub rows_fit : (m : Module) (rows : List (List ℕ)) → is_sound m ≡ true → AreRows (inputs_of m) rows → AllFit m rows
+rows_fit m rows sound a = λ t h.
+    subst (λ (ws : List ℕ). Fit ws (slice_index_or rows t [])) (sym (one_bit m sound)) (rows_fit_bits (data_inputs m) rows a t h)
 
 module _ (words : List (List ℕ)) (old new : Outside) where
   status_is : (o : Option Failure) → ended_by o ≡ done_status (fired_by o)
@@ -110,12 +116,13 @@ module _ (words : List (List ℕ)) (old new : Outside) where
   pub settled : (j : Job) (f : Flat) (m : Module) (origins : Origins) (rows : List (List ℕ)) (bytes : List ℕ) (p : Progress) (result : Status)
       → StandsFor f m → is_sound m ≡ true → Ready layers words old new j (record { top = m; origins = origins })
       → new.files.faults ≡ old.files.faults → new.source.faults ≡ old.source.faults → Consumes old.source.left new.source.left bytes → IsAtEnd new.source.left
-      → IsStimulus (data_inputs m) rows bytes → RanTo f rows p → RunIsWritten j.lag origins f rows p result old.out new.out old.report new.report
-      → Answers layers words old new result
-  settled j f m origins rows bytes p result s sound r file_count read_count c e i ran d =
-      let is = judged f m rows s (rows_fit m rows bytes sound i) j origins bytes p.state p.failure i ran.ran.found in
-      let t : text_by j.lag f.name origins p.cycles p.failure ≡ text_by j.lag m.name origins (length rows) p.failure = (λ x. text_by j.lag (s.name x) origins (ran.count x) p.failure) in
-      delivered_answers layers words old new (fired_by p.failure) (out_by j.lag f rows p.failure) (text_by j.lag m.name origins (length rows) p.failure) result
+      → text.stimulus (inputs_of m) bytes ≡ text.rows rows → AreRows (inputs_of m) rows → RanTo f rows p
+      → RunIsWritten (lag_of j) origins f rows p result old.out new.out old.report new.report → Answers layers words old new result
+  settled j f m origins rows bytes p result s sound r file_count read_count c e i are ran d =
+      let lag = lag_of j in
+      let is = judged f m rows s (rows_fit m rows sound are) j origins bytes p.state p.failure i ran.ran.found in
+      let t : text_by lag f.name origins p.cycles p.failure ≡ text_by lag m.name origins (length rows) p.failure = (λ x. text_by lag (s.name x) origins (ran.count x) p.failure) in
+      delivered_answers layers words old new (fired_by p.failure) (out_by lag f rows p.failure) (text_by lag m.name origins (length rows) p.failure) result
       (record { job = j; the_design = record { top = m; origins = origins }; bytes = bytes; ready = r; taken = c; at_end = e; judged = is }) file_count read_count
-      (subst (λ (x : List ℕ). Delivered (out_by j.lag f rows p.failure) x (done_status (fired_by p.failure)) result old.out new.out old.report new.report) t
-      (subst (λ (x : Status). Delivered (out_by j.lag f rows p.failure) (text_by j.lag f.name origins p.cycles p.failure) x result old.out new.out old.report new.report) (status_is p.failure) d))
+      (subst (λ (x : List ℕ). Delivered (out_by lag f rows p.failure) x (done_status (fired_by p.failure)) result old.out new.out old.report new.report) t
+      (subst (λ (x : Status). Delivered (out_by lag f rows p.failure) (text_by lag f.name origins p.cycles p.failure) x result old.out new.out old.report new.report) (status_is p.failure) d))

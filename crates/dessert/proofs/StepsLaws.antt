@@ -1,9 +1,11 @@
 -- How many steps a call counts.
-use Rattle.std.proofs.Common.{◌≡◌, ◌≤◌, ◌+◌, ◌*◌, ◌<◌, ℕ, List, [], ap, inl, inr, arith}
+use Rattle.std.proofs.Common.{◌≡◌, ◌≤◌, ◌+◌, ◌*◌, ◌<◌, ℕ, List, [], refl, ap, inl, inr, arith}
 use Rattle.std.proofs.KnownBytes.{Consumes-nil}
 use Rattle.dessert.specs.Outside.{SourceAt, SinkAt}
 use Rattle.dessert.specs.Answer.{Status, failure, writing}
-use Rattle.dessert.specs.Steps.{period, most_kept, again, AreFew}
+use Rattle.talk.specs.Words.{Job, Asks, IsFirstBad}
+use Rattle.talk.specs.Words.{lag_of}
+use Rattle.dessert.specs.Steps.{period, most_kept, again, AreFew, AreFewFor}
 use Rattle.dessert.specs.Calls.Rows.{StepsEach}
 use Rattle.dessert.specs.Calls.Writing.{Wrote, Reported}
 
@@ -38,3 +40,12 @@ lag_below lag n e = omega (arith, e)
 pub runs_again : (lag p before now kept : ℕ) (s : Status) → p ≡ period lag → kept ≤ 2 * p → now ≤ before + kept → again lag s ≡ most_kept lag
     → now ≤ before + again lag s
 runs_again lag p before now kept s e k n a = let t : 2 * p ≡ most_kept lag = ap (λ (x : ℕ). 2 * x) e in omega (arith, t, k, n, a)
+
+-- few steps under the lag that the words ask for
+pub few_for : (words : List (List ℕ)) (job : Job) (old new : SourceAt) (before now : ℕ) (s : Status) → Asks words job
+    → AreFew (lag_of job) old new before now s → AreFewFor words old new before now s
+few_for words job old new before now s asked few = record { lag = lag_of job; is_lag = inl (job, asked, refl); are_few = few }
+
+-- nothing was read for bad words
+pub none_for : (words : List (List ℕ)) (n : ℕ) (source : SourceAt) (steps : ℕ) (s : Status) → IsFirstBad words n → AreFewFor words source source steps steps s
+none_for words n source steps s bad = record { lag = 0; is_lag = inr (n, bad, refl); are_few = unread 0 source steps s }

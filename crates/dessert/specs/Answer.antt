@@ -6,7 +6,8 @@ use Rattle.dt_core.specs.declared.limits.TheConstants.{MAX_FILE}
 use Rattle.dt_core.specs.Causes.{Rose, AppendsPart}
 use Rattle.dt_io.specs.Files.{IsLong}
 use Rattle.dessert.specs.Outside.{FilesAt, Outside}
-use Rattle.dessert.specs.Report.{usage_text, file_failed_text, file_long_text, read_failed_text, write_failed_text}
+use Rattle.talk.specs.declared.answer.Answer.TheVariants as a
+use Rattle.talk.specs.Report.{report_text}
 
 -- ---- statuses
 
@@ -38,23 +39,19 @@ number memory = 9
 
 -- ---- the layers below
 
--- what words are: an allowed job, or none
-pub data Words (Job : Type 0) : Type 0 where
-  allowed : Job → Words Job
-  bad : Words Job
-
 -- what comes of an input: the job is done, and whether an assertion fired, with the texts of `out` and `report`;
 -- or the input is refused, and whether only for being cut short, with the report
 pub data Judged : Type 0 where
   done : Bool → List ℕ → List ℕ → Judged
   refused : Bool → List ℕ → Judged
 
--- the words and the file names of a job, its accepted designs and its refusals over the files' contents,
--- what comes of a design and the bytes read, and the bytes that may go on to an accepted input
+-- the job that words ask for, or the number of the first bad one; the file names of a job, its accepted designs and its refusals over
+-- the files' contents; what comes of a design and the bytes read, and the bytes that may go on to an accepted input
 pub record Layers : Type 1 where
   pub Job : Type 0
   pub Design : Type 0
-  pub words : List (List ℕ) → Words Job
+  pub Asks : List (List ℕ) → Job → Type 0
+  pub IsFirstBad : List (List ℕ) → ℕ → Type 0
   pub files : Job → List (List ℕ)
   pub IsDesign : Job → List (List ℕ) → Design → Type 0
   pub IsRefusal : Job → List (List ℕ) → List ℕ → Type 0
@@ -83,12 +80,12 @@ IsTooLong old new name =
 module _ (L : Layers) (words : List (List ℕ)) (old new : Outside) where
   -- the words are those of a job
   abbrev pub IsAllowed : Type 0
-  IsAllowed = (job : L.Job) × (L.words words ≡ allowed job)
+  IsAllowed = (job : L.Job) × L.Asks words job
 
-  -- the words are those of the job, its files were loaded, and they are the design
+  -- the words ask for the job, its files were loaded, and they are the design
   pub record Ready (job : L.Job) (d : L.Design) : Type 0 where
     pub files : List (List ℕ)
-    pub words_are : L.words words ≡ allowed job
+    pub asked : L.Asks words job
     pub loaded : Loaded old.files (L.files job) files
     pub accepted : L.IsDesign job files d
 
@@ -102,17 +99,18 @@ module _ (L : Layers) (words : List (List ℕ)) (old new : Outside) where
     pub at_end : IsAtEnd new.source.left
     pub judged : L.Judges job the_design bytes (done fired out report)
 
-  -- status 2: the words have no allowed form
+  -- status 2: the words have no allowed form, and the report has the number of the first bad one
   pub record BadWords (report : List ℕ) : Type 0 where
-    pub words_are : L.words words ≡ bad
-    pub report_is : report ≡ usage_text
+    pub bad_word : ℕ
+    pub is_first_bad : L.IsFirstBad words bad_word
+    pub report_is : report ≡ report_text (a.Usage bad_word)
     pub untaken : Keeps old.source.left new.source.left
 
   -- status 3: all files were loaded, and the design is refused
   pub record BadDesign (report : List ℕ) : Type 0 where
     pub job : L.Job
     pub files : List (List ℕ)
-    pub words_are : L.words words ≡ allowed job
+    pub asked : L.Asks words job
     pub loaded : Loaded old.files (L.files job) files
     pub refused : L.IsRefusal job files report
     pub untaken : Keeps old.source.left new.source.left
@@ -131,8 +129,8 @@ module _ (L : Layers) (words : List (List ℕ)) (old new : Outside) where
   -- why a file was not loaded, and what is reported of it
   abbrev pub FileCause : List ℕ → List ℕ → Type 0
   FileCause name report =
-      (HasFailed old.files new.files name × (report ≡ file_failed_text name))
-      ⊎ (IsTooLong old.files new.files name × (report ≡ file_long_text name))
+      (HasFailed old.files new.files name × (report ≡ report_text (a.FileFailed name)))
+      ⊎ (IsTooLong old.files new.files name × (report ≡ report_text (a.FileTooLong name)))
 
   -- status 5: all files before one were loaded, and that one was not
   pub record BadFile (report : List ℕ) : Type 0 where
@@ -141,7 +139,7 @@ module _ (L : Layers) (words : List (List ℕ)) (old new : Outside) where
     pub name : List ℕ
     pub after : List (List ℕ)
     pub files : List (List ℕ)
-    pub words_are : L.words words ≡ allowed job
+    pub asked : L.Asks words job
     pub names_are : L.files job ≡ before ++ name ∷ after
     pub loaded : Loaded old.files before files
     pub cause : FileCause name report
@@ -156,7 +154,7 @@ module _ (L : Layers) (words : List (List ℕ)) (old new : Outside) where
     pub taken : Consumes old.source.left new.source.left bytes
     pub rose : Rose old.source.faults new.source.faults
     pub may_go_on : L.MayGoOn job the_design bytes
-    pub report_is : report ≡ read_failed_text
+    pub report_is : report ≡ report_text a.InputFailed
 
   -- status 7: the job is done, and `out` failed after a front of its text
   pub record BadWrite (out report : List ℕ) : Type 0 where
@@ -167,7 +165,7 @@ module _ (L : Layers) (words : List (List ℕ)) (old new : Outside) where
     pub did : Done fired whole was
     pub rose : Rose old.out.faults new.out.faults
     pub front : out ≡ take count whole
-    pub report_is : report ≡ write_failed_text
+    pub report_is : report ≡ report_text a.OutputFailed
 
   -- what is due to `out` and to `report` under a status, with its cause
   abbrev pub Due : Status → List ℕ → List ℕ → Type 0

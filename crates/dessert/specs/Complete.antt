@@ -2,13 +2,14 @@
 -- rises. This project's own.
 use Rattle.std.specs.Prelude.{◌≡◌, ℕ, true, List, Some}
 use Rattle.dt_core.specs.Causes.{Rose}
+use Rattle.talk.specs.Words.{Job, Asks}
+use Rattle.stimulus.specs.Stimulus as text
 use Rattle.vl_tree.specs.Tree.{Module}
-use Rattle.vl_meaning.specs.Objects.{data_inputs}
 use Rattle.vl_front.specs.OneModule.{IsOneModule}
-use Rattle.stim.specs.Stimulus.{IsStimulus}
 use Rattle.dessert.specs.Outside.{Outside}
-use Rattle.dessert.specs.Answer.{allowed, Loaded}
-use Rattle.dessert.specs.Words.{Job, words_of}
+use Rattle.dessert.specs.Answer.{Loaded}
+use Rattle.talk.specs.Words.{top_of, files_of}
+use Rattle.dessert.specs.Inputs.{inputs_of}
 use Rattle.dessert.specs.Sources.{design_text}
 
 pub record AllWell (words : List (List ℕ)) (old new : Outside) : Type 0 where
@@ -17,12 +18,12 @@ pub record AllWell (words : List (List ℕ)) (old new : Outside) : Type 0 where
   pub the_module : Module
   pub rows : List (List ℕ)
   pub bytes : List ℕ
-  pub asked : words_of words ≡ allowed job
+  pub asked : Asks words job
   pub is_told : old.files.told ≡ true
-  pub loaded : Loaded old.files job.files files
-  pub design : IsOneModule (design_text files) the_module
+  pub loaded : Loaded old.files (files_of job) files
+  pub design : IsOneModule (design_text files) (top_of job) the_module
   pub left : old.source.left ≡ Some bytes
-  pub stimulus : IsStimulus (data_inputs the_module) rows bytes
+  pub stimulus : text.stimulus (inputs_of the_module) bytes ≡ text.rows rows
   pub loads : Rose old.files.faults new.files.faults → ⊥
   pub reads : Rose old.source.faults new.source.faults → ⊥
   pub writes : Rose old.out.faults new.out.faults → ⊥

@@ -1,9 +1,8 @@
 pub mod Outside
-pub mod Report
-pub mod Answer
-pub mod Words
-pub mod Named
 pub mod Sources
+pub mod Inputs
+pub mod Reported
+pub mod Answer
 pub mod Outcome
 pub mod Complete
 pub mod Steps

@@ -1,18 +1,25 @@
 -- What comes of a job and bytes: the files are a module with one clocked block, the stimulus is run to its end, and the window of the
 -- first failure is written. This project's own.
-use Rattle.std.specs.Prelude.{◌≡◌, ℕ, zero, suc, ◌-◌, true, false, List, [], ◌∷◌, length, map, Option, Some, None, is_some, Err, ◌⊎◌}
+use Rattle.std.specs.Prelude.{◌≡◌, ℕ, zero, suc, ◌-◌, List, [], ◌∷◌, codes, length, map, Option, Some, None, is_some, ◌⊎◌}
+use Rattle.talk.specs.declared.answer.Answer.TheVariants as a
+use Rattle.talk.specs.Words.{Job, Asks, IsFirstBad}
+use Rattle.talk.specs.Report.{report_text, failure_text, quiet_text}
+use Rattle.stimulus.specs.declared.refusal.Refusal.{Refusal}
+use Rattle.stimulus.specs.Refusals.{is_truncated}
+use Rattle.stimulus.specs.Stimulus as text
+use Rattle.vl_tree.specs.Fault.{name_of}
 use Rattle.vl_tree.specs.Tree.{Module}
-use Rattle.vl_meaning.specs.Objects.{data_inputs}
 use Rattle.vl_meaning.specs.Run.{fires, first_failure}
 use Rattle.vl_meaning.specs.Shown.{scope_of, shown_at}
 use Rattle.vl_front.specs.Spelled.{Fault}
 use Rattle.vl_front.specs.FirstFault.{HasFirst}
+use Rattle.vl_front.specs.Top.{HasNoTop}
 use Rattle.vl_front.specs.OneModule.{IsDesign, IsNoDesign}
-use Rattle.stim.specs.Stimulus.{IsStimulus, Begins, IsWhole}
 use Rattle.vcd_text.specs.Vcd.{vcd_text}
-use Rattle.dessert.specs.Report.{stop_of, failure_text, quiet_text, fault_text, not_built_text, stimulus_refused_text}
+use Rattle.talk.specs.Words.{lag_of, top_of, files_of}
+use Rattle.dessert.specs.Inputs.{inputs_of}
+use Rattle.dessert.specs.Reported.{stop_of, fault_at, refusal_report}
 use Rattle.dessert.specs.Answer.{Judged, done, refused, Layers}
-use Rattle.dessert.specs.Words.{Job, words_of}
 use Rattle.dessert.specs.Sources.{design_text, Origins, origins_of, spot_in}
 
 -- ---- the design
@@ -24,14 +31,16 @@ pub record Design : Type 0 where
 
 -- the files are the design's
 pub record AreDesign (j : Job) (files : List (List ℕ)) (d : Design) : Type 0 where
-  pub is_design : IsDesign (design_text files) d.top
-  pub origins : d.origins ≡ origins_of j.files files
+  pub is_design : IsDesign (design_text files) (top_of j) d.top
+  pub origins : d.origins ≡ origins_of (files_of j) files
 
--- the report of files that are no design: their text has a fault of the first three phases, or it is no module's
+-- the report of files that are no design: their text has a fault of the first three phases, or no top, or it is no module's
 abbrev pub AreRefused : Job → List (List ℕ) → List ℕ → Type 0
 AreRefused j files report =
-    ((f : Fault) × HasFirst (design_text files) f × (report ≡ fault_text (spot_in (origins_of j.files files) f.line) f.kind))
-    ⊎ (IsNoDesign (design_text files) × (report ≡ not_built_text))
+    let spot = spot_in (origins_of (files_of j) files) in
+    ((f : Fault) × HasFirst (design_text files) f × (report ≡ fault_at (spot f.line) (name_of f.kind)))
+    ⊎ (((line : ℕ) × HasNoTop (design_text files) (top_of j) line × (report ≡ fault_at (spot line) (codes "NoTop")))
+    ⊎ (IsNoDesign (design_text files) (top_of j) × (report ≡ report_text a.NotYetBuilt)))
 
 -- ---- the run
 
@@ -58,14 +67,16 @@ abbrev pub report_of : ℕ → Design → List (List ℕ) → Option ℕ → Lis
 report_of lag d rows (Some c) = failure_text c (map (stop_of d.top.name d.origins) (fires d.top rows c)) (window_start lag c)
 report_of lag d rows None = quiet_text (length rows)
 
--- what comes of the bytes: they are rows, and the texts are those of their run; or they are no rows
+-- what comes of the bytes: they are rows, and the texts are those of their run; or they are refused, on this line
 abbrev pub Judges : Job → Design → List ℕ → Judged → Type 0
 Judges j d bytes (done fired out report) =
-    (rows : List (List ℕ)) × IsStimulus (data_inputs d.top) rows bytes × (fired ≡ is_some (first_failure d.top rows))
-    × (out ≡ output_of j.lag d.top rows (first_failure d.top rows)) × (report ≡ report_of j.lag d rows (first_failure d.top rows))
-Judges j d bytes (refused true report) =
-    Begins (data_inputs d.top) bytes × (IsWhole (data_inputs d.top) bytes → ⊥) × (report ≡ stimulus_refused_text)
-Judges j d bytes (refused false report) = (Begins (data_inputs d.top) bytes → ⊥) × (report ≡ stimulus_refused_text)
+    (rows : List (List ℕ)) × (text.stimulus (inputs_of d.top) bytes ≡ text.rows rows)
+    × (fired ≡ is_some (first_failure d.top rows))
+    × (out ≡ output_of (lag_of j) d.top rows (first_failure d.top rows))
+    × (report ≡ report_of (lag_of j) d rows (first_failure d.top rows))
+Judges j d bytes (refused short report) =
+    (r : Refusal) × (text.stimulus (inputs_of d.top) bytes ≡ text.refused r)
+    × (short ≡ is_truncated r.kind) × (report ≡ refusal_report r)
 
 -- ---- all of it
 
@@ -74,10 +85,11 @@ abbrev pub layers : Layers
 layers = record {
   Job = Job;
   Design = Design;
-  words = words_of;
-  files = λ j. j.files;
+  Asks = Asks;
+  IsFirstBad = IsFirstBad;
+  files = files_of;
   IsDesign = AreDesign;
   IsRefusal = AreRefused;
   Judges = Judges;
-  MayGoOn = λ j d bytes. Begins (data_inputs d.top) bytes;
+  MayGoOn = λ j d bytes. text.MayGoOn (inputs_of d.top) bytes;
 }

@@ -4,7 +4,7 @@ ghost use Rattle.std.specs.Prelude.{◌≡◌, ◌≤◌, ◌+◌, ◌++◌, ◌
 ghost use Rattle.std.specs.List.{count_by};
 ghost use Rattle.dt_io.specs.declared.outside.LoadFault.TheVariants as load;
 ghost use Rattle.dessert.specs.Outside.{files_at};
-ghost use Rattle.dessert.specs.Named.{named};
+ghost use Rattle.talk.specs.Plain.{named};
 ghost use Rattle.dessert.specs.Sources as sources;
 ghost use Rattle.dessert.specs.Sources.{closed, spot_in, SpotsAreRight};
 ghost use Rattle.dessert.specs.Calls.Loading.{LoadsOne, IsLoaded, NotLoaded};
@@ -23,7 +23,7 @@ pub struct Origins<'a> {
 
 impl<'a> Model for Origins<'a> {
     ghost use Rattle.dessert.specs.Sources.{Origins as PlainOrigins};
-    ghost use Rattle.dessert.specs.Named.{named};
+    ghost use Rattle.talk.specs.Plain.{named};
 
     ghost Value = { PlainOrigins };
 
@@ -144,8 +144,8 @@ fn close(text: &mut Vec<u8>, start: usize) -> Result<(), LoadFault>
     }
 }
 
-/// Whether the bytes end with LF.
-pub fn ends_line(bytes: &[u8]) -> bool
+// Whether the bytes end with LF.
+fn ends_line(bytes: &[u8]) -> bool
     ensures { result ≡ sources.ends_line bytes.now }
 {
     match bytes {

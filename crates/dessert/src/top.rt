@@ -1,38 +1,42 @@
 //! The top call.
 
-ghost use Rattle.std.specs.Prelude.{◌≡◌, ◌≤◌, ◌<◌, ◌+◌, map, length, List, ℕ, IfOk, Some};
-ghost use Rattle.dt_core.specs.declared.limits.TheConstants.{MAX_LAG};
+ghost use Rattle.std.specs.Prelude.{◌≡◌, ◌≤◌, ◌<◌, ◌+◌, map, length, List, ℕ, IfOk, Some, Option};
+ghost use Rattle.dt_core.specs.declared.limits.TheConstants.{MAX_FILES, MAX_LAG};
+ghost use Rattle.talk.specs.Plain.{named, plain};
+ghost use Rattle.talk.specs.Report.{failure_text, report_text};
+ghost use Rattle.talk.specs.Words.{Asks, sim};
 ghost use Rattle.flat_ir.specs.Names.{input_names};
 ghost use Rattle.vl_front.specs.Reads.{Reads};
+ghost use Rattle.vl_front.specs.Top.{asked};
 ghost use Rattle.dessert.specs.Outside.{FilesAt, source_at, sink_at, streams_at, outside_at};
 ghost use Rattle.dessert.specs.Answer.{Answers};
-ghost use Rattle.dessert.specs.Words.{words_of};
-ghost use Rattle.dessert.specs.Named.{named};
 ghost use Rattle.dessert.specs.Outcome.{layers};
-ghost use Rattle.dessert.specs.Report.{failure_text, stop_of};
-ghost use Rattle.dessert.specs.Steps.{AreFew, again, lag_in, period};
+ghost use Rattle.dessert.specs.Reported.{stop_of};
+ghost use Rattle.dessert.specs.Steps.{AreFew, AreFewFor, again, period};
 ghost use Rattle.dessert.specs.Headline.{IsAnswer, IsComplete};
 ghost use Rattle.dessert.specs.Calls.Led.{LedToText, LedToDesign};
 ghost use Rattle.dessert.specs.Calls.Ran.{RanTo};
-ghost use Rattle.dessert.specs.Calls.Written.{RunIsWritten, GivesUp, refusal_text, refusal_status};
-ghost use Rattle.dessert.specs.Calls.Writing.{Wrote};
+ghost use Rattle.dessert.specs.Calls.Written.{RunIsWritten, GivesUp};
 ghost use Rattle.dessert.specs.Calls.Ended.{status_of};
 
+use crate::answers;
 use crate::ended::Ended;
+use crate::inputs::inputs_of;
 use crate::replay::write_window;
-use crate::rows::{RowsFault, run_rows};
+use crate::rows::run_rows;
 use crate::run::{Failure, Run};
 use crate::sources::{Origins, Sources, SourcesFault, load_sources};
-use crate::texts;
-use crate::words::read_words;
-use crate::write::{finish, finish_text};
+use crate::write::{finish, finish_made};
 use dt_core::fault::NoMemory;
 use dt_io::outside::{Files, Sink, Source};
 use flat_ir::flat::Flat;
 use plain_sim::steps::Steps;
 use std::alloc::Global;
 use std::sync::ledger::Ledger;
-use stim::reader::{StimFault, StimReader};
+use stimulus::reader::StimReader;
+use stimulus::refusal::StimFault;
+use talk::answer::Answer;
+use talk::words::read_words;
 use vcd_text::fault::VcdFault;
 use vl_front::{DesignFault, read_design};
 
@@ -73,19 +77,55 @@ fn answer<F: Files, S: Source, V: Sink, T: Sink, L: Ledger>(
         Answers layers (named words.now) (seen files.old stimulus.old out.old report.old steps.old)
         (seen files.new stimulus.new out.new report.new steps.new) (status_of result) }
     ensures steps { let seen = source_at S.Source in
-        AreFew (lag_in (words_of (named words.now))) (seen stimulus.old) (seen stimulus.new) steps.old steps.new
-        (status_of result) }
+        AreFewFor (named words.now) (seen stimulus.old) (seen stimulus.new) steps.old steps.new (status_of result) }
 {
-    let Some(job) = read_words(words) else {
-        return finish(report, texts::USAGE, Ended::Usage);
-    };
-    match load_sources(alloc, job.files, files) {
-        Ok(sources) => run_sources(alloc, job.lag, sources, stimulus, out, report, steps),
+    match read_words(words) {
+        Ok(job) => run_files(
+            alloc,
+            job.lag(),
+            job.top(),
+            job.files(),
+            files,
+            stimulus,
+            out,
+            report,
+            steps,
+        ),
+        Err(usage) => {
+            let number = usage.number();
+            finish(report, &Answer::Usage { number }, Ended::Usage)
+        }
+    }
+}
+
+// Goes on from words that ask for this lag, this top and these files: the answer is the whole call's.
+fn run_files<F: Files, S: Source, V: Sink, T: Sink, L: Ledger>(
+    alloc: Global,
+    lag: u32,
+    top: Option<&[u8]>,
+    names: &[&str],
+    files: &mut F,
+    stimulus: &mut S,
+    out: &mut V,
+    report: &mut T,
+    steps: &mut Steps<L>,
+) -> Ended
+    requires lag { lag ≤ MAX_LAG }
+    requires few { length names.now ≤ MAX_FILES }
+    ensures answers { let seen = outside_at F.Files S.Source V.Sink T.Sink in
+        (words : List (List ℕ)) → Asks words (sim lag (plain top.entry) (named names.now))
+        → Answers layers words (seen files.old stimulus.old out.old report.old steps.old)
+        (seen files.new stimulus.new out.new report.new steps.new) (status_of result) }
+    ensures steps { let seen = source_at S.Source in
+        AreFew lag (seen stimulus.old) (seen stimulus.new) steps.old steps.new (status_of result) }
+{
+    match load_sources(alloc, names, files) {
+        Ok(sources) => run_sources(alloc, lag, top, sources, stimulus, out, report, steps),
         Err(SourcesFault::Failed(name)) => {
-            finish_text(report, texts::file_failed(alloc, name), Ended::File)
+            finish_made(report, answers::file_failed(alloc, name), Ended::File)
         }
         Err(SourcesFault::TooLong(name)) => {
-            finish_text(report, texts::file_long(alloc, name), Ended::File)
+            finish_made(report, answers::file_long(alloc, name), Ended::File)
         }
         Err(SourcesFault::Memory) => Ended::Memory,
     }
@@ -95,6 +135,7 @@ fn answer<F: Files, S: Source, V: Sink, T: Sink, L: Ledger>(
 fn run_sources<S: Source, V: Sink, T: Sink, L: Ledger>(
     alloc: Global,
     lag: u32,
+    top: Option<&[u8]>,
     sources: Sources<'_>,
     stimulus: &mut S,
     out: &mut V,
@@ -105,31 +146,36 @@ fn run_sources<S: Source, V: Sink, T: Sink, L: Ledger>(
     requires lag { lag ≤ MAX_LAG }
     ensures answers { let seen = streams_at S.Source V.Sink T.Sink in
         (words : List (List ℕ)) (files : FilesAt)
-        → LedToText words files lag sources.entry.origins sources.entry.text.items
+        → LedToText words files lag (plain top.entry) sources.entry.origins sources.entry.text.items
         → Answers layers words (seen files stimulus.old out.old report.old steps.old)
         (seen files stimulus.new out.new report.new steps.new) (status_of result) }
     ensures steps { let seen = source_at S.Source in
         AreFew lag (seen stimulus.old) (seen stimulus.new) steps.old steps.new (status_of result) }
 {
     let Sources { text, origins } = sources;
-    match read_text(alloc, text) {
+    match read_text(alloc, text, top) {
         Ok(flat) => run_design(alloc, lag, &origins, &flat, stimulus, out, report, steps),
-        Err(DesignFault::At { line, kind, .. }) => finish_text(
+        Err(DesignFault::At { line, kind, .. }) => finish_made(
             report,
-            texts::design_fault(alloc, origins.spot(line), kind),
+            answers::design_fault(alloc, origins.spot(line), kind.name()),
             Ended::Design,
         ),
-        Err(DesignFault::NotYetBuilt) => finish(report, texts::NOT_BUILT, Ended::Design),
+        Err(DesignFault::NoTop { line }) => finish_made(
+            report,
+            answers::design_fault(alloc, origins.spot(line), "NoTop"),
+            Ended::Design,
+        ),
+        Err(DesignFault::NotYetBuilt) => finish(report, &Answer::NotYetBuilt, Ended::Design),
         Err(DesignFault::Memory) => Ended::Memory,
     }
 }
 
 // The design of a text, which is gone before the run.
-fn read_text(alloc: Global, text: Vec<u8>) -> Result<Flat, DesignFault>
+fn read_text(alloc: Global, text: Vec<u8>, top: Option<&[u8]>) -> Result<Flat, DesignFault>
     requires { length text.items < u32.MAX }
-    ensures { Reads text.items result }
+    ensures { Reads text.items (asked top.entry) result }
 {
-    read_design(alloc, &text)
+    read_design(alloc, &text, top)
 }
 
 // Goes on from an accepted design: whatever led there, the answer is the whole call's.
@@ -152,7 +198,10 @@ fn run_design<S: Source, V: Sink, T: Sink, L: Ledger>(
     ensures steps { let seen = source_at S.Source in
         AreFew lag (seen stimulus.old) (seen stimulus.new) steps.old steps.new (status_of result) }
 {
-    let Ok(mut reader) = StimReader::new(alloc, flat) else {
+    let Ok(inputs) = inputs_of(alloc, flat.signals()) else {
+        return Ended::Memory;
+    };
+    let Ok(mut reader) = StimReader::new(alloc, inputs) else {
         return Ended::Memory;
     };
     let Ok(mut run) = Run::start(alloc, flat, lag) else {
@@ -160,29 +209,20 @@ fn run_design<S: Source, V: Sink, T: Sink, L: Ledger>(
     };
     match run_rows(alloc, &mut reader, &mut run, stimulus, steps) {
         Ok(()) => settle(alloc, lag, origins, &run, out, report, steps),
-        Err(fault) => give_up(fault, report),
+        Err(fault) => give_up(alloc, fault, report),
     }
 }
 
 // Writes the report of a run that didn't come to the end of its rows.
-fn give_up<T: Sink>(fault: RowsFault, report: &mut T) -> Ended
+fn give_up<T: Sink>(alloc: Global, fault: StimFault, report: &mut T) -> Ended
     ensures { GivesUp fault (status_of result) (sink_at T.Sink report.old) (sink_at T.Sink report.new) }
 {
     match fault {
-        RowsFault::Stimulus(fault) => refuse(fault, report),
-        RowsFault::Memory => Ended::Memory,
-    }
-}
-
-// Writes the report of a stimulus that was refused, or that broke off.
-fn refuse<T: Sink>(fault: StimFault, report: &mut T) -> Ended
-    ensures { Wrote (refusal_text fault) (refusal_status fault) (status_of result)
-        (sink_at T.Sink report.old) (sink_at T.Sink report.new) }
-{
-    match fault {
-        StimFault::NotBuilt => finish(report, texts::STIMULUS_REFUSED, Ended::Input),
-        StimFault::Truncated => finish(report, texts::STIMULUS_REFUSED, Ended::Input),
-        StimFault::Read => finish(report, texts::READ_FAILED, Ended::Reading),
+        StimFault::Refused(refusal) => {
+            finish_made(report, answers::refused(alloc, refusal), Ended::Input)
+        }
+        StimFault::Read => finish(report, &Answer::InputFailed, Ended::Reading),
+        StimFault::Memory => Ended::Memory,
     }
 }
 
@@ -205,7 +245,10 @@ fn settle<V: Sink, T: Sink, L: Ledger>(
 {
     match run.failure() {
         Some(failure) => fail(alloc, lag, origins, run, failure, out, report, steps),
-        None => finish_text(report, texts::quiet(alloc, run.cycles()), Ended::Quiet),
+        None => {
+            let cycles = u64::from(run.cycles());
+            finish(report, &Answer::NoFailure { cycles }, Ended::Quiet)
+        }
     }
 }
 
@@ -230,12 +273,12 @@ fn fail<V: Sink, T: Sink, L: Ledger>(
 {
     let first = failure.cycle.saturating_sub(u64::from(lag));
     match write_window(alloc, run.flat(), run.window(), first, out, steps) {
-        Ok(()) => finish_text(
+        Ok(()) => finish_made(
             report,
             failure_report(alloc, origins, run.flat(), failure, first),
             Ended::Failure,
         ),
-        Err(VcdFault::Write) => finish(report, texts::WRITE_FAILED, Ended::Writing),
+        Err(VcdFault::Write) => finish(report, &Answer::OutputFailed, Ended::Writing),
         Err(VcdFault::Memory) => Ended::Memory,
     }
 }
@@ -247,16 +290,9 @@ fn failure_report(
     flat: &Flat,
     failure: &Failure,
     first: u64,
-) -> Result<Vec<u8>, NoMemory>
+) -> Result<Answer, NoMemory>
     ensures { let stops = map (stop_of flat.now.name origins.now) failure.now.fired in
-        IfOk result (λ text. text.items ≡ failure_text failure.now.cycle stops first) }
+        IfOk result (λ it. report_text it ≡ failure_text failure.now.cycle stops first) }
 {
-    texts::failure(
-        alloc,
-        flat.name(),
-        origins,
-        failure.cycle,
-        &failure.fired,
-        first,
-    )
+    answers::failure(alloc, flat.name(), origins, failure, first)
 }

@@ -10,10 +10,19 @@ const HEADER: &[u8] =
 
 // Why a text is no design, if it is none.
 fn fault_of(alloc: Global, text: &[u8]) -> Result<Option<DesignFault>, Fail> {
+    fault_under(alloc, text, None)
+}
+
+// The same where a top of this name may be asked for.
+fn fault_under(
+    alloc: Global,
+    text: &[u8],
+    top: Option<&[u8]>,
+) -> Result<Option<DesignFault>, Fail> {
     if text.len() > 1_000_000 {
         return Err("a text too long for a test".into());
     }
-    match read_design(alloc, text) {
+    match read_design(alloc, text, top) {
         Ok(_) => Ok(None),
         Err(DesignFault::Memory) => Err("no memory".into()),
         Err(fault) => Ok(Some(fault)),
@@ -129,7 +138,7 @@ fn the_first_fault_has_its_line(rt: HostRuntime) -> Result<(), Fail> {
 }
 
 /// Texts without a fault of these phases.
-static TEXTS: [(&[u8], bool); 13] = [
+static TEXTS: [(&[u8], bool); 12] = [
     (
         b"module m(input c); always @(posedge c) begin end endmodule",
         true,
@@ -175,8 +184,47 @@ static TEXTS: [(&[u8], bool); 13] = [
         b"module m(input c); always @(posedge c) if (c) ; else begin : x end endmodule",
         false,
     ),
-    (b"", false),
 ];
+
+// Texts with the name of a top, and why each is no design.
+static TOPS: [(&[u8], &[u8], Option<DesignFault>); 6] = [
+    (
+        b"module m(input c); always @(posedge c) begin end endmodule",
+        b"m",
+        None,
+    ),
+    (
+        b"\n// two\nmodule m(input c); always @(posedge c) begin end endmodule",
+        b"M",
+        Some(DesignFault::NoTop { line: 3 }),
+    ),
+    (
+        b"\nmodule m; endmodule module n; endmodule",
+        b"o",
+        Some(DesignFault::NoTop { line: 2 }),
+    ),
+    (
+        b"module m; endmodule module n; endmodule",
+        b"n",
+        Some(DesignFault::NotYetBuilt),
+    ),
+    (
+        b"module \\if (input c); always @(posedge c) begin end endmodule",
+        b"if",
+        None,
+    ),
+    (b"", b"m", Some(DesignFault::NoTop { line: 1 })),
+];
+
+#[test]
+fn a_top_is_a_module_of_its_name(rt: HostRuntime) -> Result<(), Fail> {
+    for (text, top, fault) in TOPS.iter() {
+        assert_eq!(rt; fault_under(rt.alloc(), text, Some(*top))?, *fault);
+    }
+    let none = DesignFault::NoTop { line: 1 };
+    assert_eq!(rt; fault_of(rt.alloc(), b"\n\n")?, Some(none));
+    Ok(())
+}
 
 #[test]
 fn texts_of_one_module(rt: HostRuntime) -> Result<(), Fail> {

@@ -1,4 +1,5 @@
 pub mod Stimulus
+pub mod Refusals
 pub mod Lines
 pub mod Reader
 pub mod Reads

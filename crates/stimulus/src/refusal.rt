@@ -1,5 +1,8 @@
 //! The data inputs of a stimulus, and why a stimulus is refused.
 
+ghost use Rattle.std.specs.Prelude.{◌≡◌};
+ghost use Rattle.stimulus.specs.Refusals.{name_of};
+
 use dt_core::text::Text;
 
 /// Bytes of a line before its LF.
@@ -35,6 +38,26 @@ pub enum RefusalKind {
     BadValue,
     /// The leftmost bad value of a row is 2^width or more.
     TooLarge,
+}
+
+impl RefusalKind {
+    /// The name of the kind, as a report has it.
+    pub fn name(self) -> &'static str
+        ensures { result.now ≡ name_of self }
+    {
+        match self {
+            RefusalKind::LineTooLong => "LineTooLong",
+            RefusalKind::Truncated => "Truncated",
+            RefusalKind::BadHeader => "BadHeader",
+            RefusalKind::UnknownInput => "UnknownInput",
+            RefusalKind::RepeatedInput => "RepeatedInput",
+            RefusalKind::MissingInput => "MissingInput",
+            RefusalKind::TooManyRows => "TooManyRows",
+            RefusalKind::WrongCount => "WrongCount",
+            RefusalKind::BadValue => "BadValue",
+            RefusalKind::TooLarge => "TooLarge",
+        }
+    }
 }
 
 /// A refusal, and its line counted from 1.

@@ -4,3 +4,4 @@ pub mod OptionLaws
 pub mod UsageLaws
 pub mod WordsLaws
 pub mod WritesLaws
+pub mod WithinLaws

@@ -2,11 +2,15 @@
 use Rattle.std.specs.Prelude.{ℕ, ◌≡◌, ◌<◌, ◌^◌, List}
 use Rattle.talk.specs.declared.answer.Answer.TheVariants as a
 use Rattle.talk.specs.Report.{report_text}
-use Rattle.talk.specs.Words.{Word, Job, Asks, IsLine, IsFirstBad}
+use Rattle.talk.specs.Words.{Word, Job, IsWithinLimits, Asks, IsLine, IsFirstBad}
 
 -- words ask for one job at most
 abbrev pub OneJob : Type 0
 OneJob = (words : List Word) (a b : Job) → Asks words a → Asks words b → a ≡ b
+
+-- what words ask for is within the limits
+abbrev pub JobsAreWithinLimits : Type 0
+JobsAreWithinLimits = (words : List Word) (job : Job) → Asks words job → IsWithinLimits job
 
 -- one word at most is the first bad one
 abbrev pub OneNumber : Type 0

@@ -94,6 +94,7 @@ report_text (a.NoFailure cycles) = quiet_text cycles
 report_text (a.NoFailureIn first last) = quiet_span_text first last
 report_text (a.Usage number) = usage_text number
 report_text (a.Design file line kind parts) = fault_text file line kind ++ loops_text parts.items
+report_text a.NotYetBuilt = codes "design: NotYetBuilt\n"
 report_text (a.Stimulus line kind) = refused_text (codes "stimulus: line ") line kind
 report_text (a.Image line kind) = refused_text (codes "image: line ") line kind
 report_text (a.FileFailed name) = file_text name (codes ": failed\n")

@@ -163,6 +163,22 @@ number_or default (Some n) = n
 pub data Job : Type 0 where
   sim : ℕ → Option (List ℕ) → List Word → Job
 
+-- how many cycles before the failure its window begins
+abbrev pub lag_of : Job → ℕ
+lag_of (sim lag top files) = lag
+
+-- the name of the top module, if one is set
+abbrev pub top_of : Job → Option (List ℕ)
+top_of (sim lag top files) = top
+
+-- its files
+abbrev pub files_of : Job → List Word
+files_of (sim lag top files) = files
+
+-- a job's lag and its files are within their limits
+abbrev pub IsWithinLimits : Job → Type 0
+IsWithinLimits (sim lag top files) = (lag ≤ MAX_LAG) × (1 ≤ length files) × (length files ≤ MAX_FILES)
+
 -- the job of a command with settings and files
 abbrev pub job_by : Command → Settings → List Word → Job
 job_by c.Sim s files = sim (number_or DEFAULT_LAG s.lag) s.top files

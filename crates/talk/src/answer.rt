@@ -50,6 +50,8 @@ pub enum Answer {
         kind: Text,
         parts: Vec<LoopLine>,
     },
+    /// The design has no fault of the phases that are built, and isn't built further; it has no place.
+    NotYetBuilt,
     /// The stimulus is refused at a line, for this kind of fault.
     Stimulus {
         line: u64,

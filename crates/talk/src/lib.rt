@@ -7,12 +7,13 @@
 //! appended.
 //! `specs/Words` says which lines are allowed, as a grammar of lines, and what each asks for; `specs/Report` has the
 //! texts.
+//! `words_law`: a job is one, and is within the limits of lag and files.
 //! A command or option that isn't built is a bad word. To build one is to add its row to each table of `options` and
 //! `specs/Words`, and its variant to `Job`.
 //! Not said: that a file of a line is there, or that a design has the module that is named.
 #![tactic(auto)]
 
-ghost use Rattle.talk.specs.Laws.{OneJob, OneNumber, BadIsNoLine, UsageHasNumber};
+ghost use Rattle.talk.specs.Laws.{OneJob, JobsAreWithinLimits, OneNumber, BadIsNoLine, UsageHasNumber};
 
 pub mod answer;
 pub mod job;
@@ -21,10 +22,11 @@ mod piece;
 pub mod report;
 pub mod words;
 
-/// Words ask for one job at most, and one word at most is the first bad one. Words with a bad one are no allowed
+/// Words ask for one job at most, which is within the limits, and one word at most is the first bad one. Words with a bad one are no allowed
 /// line, and the line that is written for them has its number.
 pub fn words_law()
     ensures one_job { OneJob }
+    ensures within_limits { JobsAreWithinLimits }
     ensures one_number { OneNumber }
     ensures no_line { BadIsNoLine }
     ensures has_number { UsageHasNumber }

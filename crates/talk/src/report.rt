@@ -293,6 +293,7 @@ fn write_answer<T: Sink>(report: &mut T, answer: &Answer) -> Result<(), Failed>
             kind,
             parts,
         } => { write_design(report, file.bytes(), *line, kind.bytes(), parts) }
+        Answer::NotYetBuilt => write_all(report, b"design: NotYetBuilt\n"),
         Answer::Stimulus { line, kind } => write_refused(
             report,
             b"stimulus: line ",

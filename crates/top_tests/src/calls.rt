@@ -175,28 +175,36 @@ fn answers_counted<L: Ledger>(
     Ok(status == case.status && report.bytes() == case.text && is_wave(case, out.bytes()))
 }
 
-const ALLOWED: [Words; 4] = [
+const ALLOWED: [Words; 6] = [
     &["sim", "cnt.v"],
     &["sim", "lag=0", "cnt.v"],
     &["sim", "lag=16384", "cnt.v"],
     &["sim", "none.v", "cnt.v"],
+    &["sim", "top=cnt", "cnt.v"],
+    &["sim", "lag=4", "top=cnt", "cnt.v"],
 ];
 
-const REFUSED: [Words; 14] = [
-    &["sim", "lag=16385", "cnt.v"],
-    &["sim", "lag=99999999999999999999", "cnt.v"],
-    &["sim", "lag=04", "cnt.v"],
-    &["sim", "lag=", "cnt.v"],
-    &["sim", "lag=+4", "cnt.v"],
-    &["sim", "lag=4x", "cnt.v"],
-    &["sim", "lags=4", "cnt.v"],
-    &["sim", "lag=4"],
-    &["sim", "lag=4", "lag=4", "cnt.v"],
-    &["sim", "cnt.v", "lag=4"],
-    &["sim", "cnt.v", ""],
-    &["sim"],
-    &[],
-    &["run", "cnt.v"],
+// Words, and the report of their first bad one.
+static REFUSED: [(Words, Bytes); 16] = [
+    (&["sim", "lag=16385", "cnt.v"], b"usage: word 2\n"),
+    (&["sim", "lag=04", "cnt.v"], b"usage: word 2\n"),
+    (&["sim", "lag=", "cnt.v"], b"usage: word 2\n"),
+    (&["sim", "lags=4", "cnt.v"], b"usage: word 2\n"),
+    (&["sim", "top=2x", "cnt.v"], b"usage: word 2\n"),
+    (&["sim", "depth=4", "cnt.v"], b"usage: word 2\n"),
+    (&["sim", "lag=4"], b"usage: word 3\n"),
+    (&["sim", "lag=4", "lag=4", "cnt.v"], b"usage: word 3\n"),
+    (
+        &["sim", "top=cnt", "lag=4", "top=cnt", "cnt.v"],
+        b"usage: word 4\n",
+    ),
+    (&["sim", "cnt.v", "lag=4"], b"usage: word 3\n"),
+    (&["sim", "cnt.v", ""], b"usage: word 3\n"),
+    (&["sim"], b"usage: word 2\n"),
+    (&[], b"usage: word 1\n"),
+    (&["run", "cnt.v"], b"usage: word 1\n"),
+    (&["soak", "7"], b"usage: word 1\n"),
+    (&["replay", "cnt.v"], b"usage: word 1\n"),
 ];
 
 // Whether each of these words is answered as the case says.
@@ -212,13 +220,34 @@ fn are_answered(alloc: Global, words: &[Words], case: Case) -> Result<bool, Fail
 #[test]
 fn words_have_one_form(rt: HostRuntime) -> Result<(), Fail> {
     assert!(rt; are_answered(rt.alloc(), &ALLOWED, quiet())?);
-    assert!(rt; are_answered(rt.alloc(), &REFUSED, plain(3, 2, b"usage\n"))?);
+    Ok(())
+}
+
+#[test]
+fn the_first_bad_word_has_its_number(rt: HostRuntime) -> Result<(), Fail> {
+    for (words, text) in REFUSED.iter() {
+        let case = Case {
+            words: *words,
+            ..plain(3, 2, *text)
+        };
+        assert!(rt; holds(rt.alloc(), &case)?);
+    }
     Ok(())
 }
 
 // Files of which one is refused, in order of the words, and the report.
-const FAULTS: [(Words, Files, Bytes); 12] = [
-    (&["sim", "m.v"], &[("m.v", b"")], b"design: NotYetBuilt\n"),
+const FAULTS: [(Words, Files, Bytes); 14] = [
+    (&["sim", "m.v"], &[("m.v", b"")], b"design: m.v:1: NoTop\n"),
+    (
+        &["sim", "top=b", "a", "b"],
+        &[("a", b"\n"), ("b", b"\nmodule a; endmodule\n")],
+        b"design: b:2: NoTop\n",
+    ),
+    (
+        &["sim", "lag=2", "top=b", "a"],
+        &[("a", b"module a; endmodule module b; endmodule\n")],
+        b"design: NotYetBuilt\n",
+    ),
     (
         &["sim", "m.v"],
         &[("m.v", b"module m; endmodule\n")],
@@ -227,7 +256,7 @@ const FAULTS: [(Words, Files, Bytes); 12] = [
     (
         &["sim", "m.v"],
         &[("m.v", b"`define A\n")],
-        b"design: NotYetBuilt\n",
+        b"design: m.v:1: NoTop\n",
     ),
     (
         &["sim", "m.v"],
@@ -314,15 +343,27 @@ fn the_first_file_that_is_not_loaded_is_named(rt: HostRuntime) -> Result<(), Fai
 }
 
 // The rows, what follows them, and the read that fails; the status, and the report.
-const READS: [(u32, Bytes, u32, u8, Bytes); 9] = [
+const READS: [(u32, Bytes, u32, u8, Bytes); 15] = [
     (0, b"", 0, 0, b"no failure in 0 cycles\n"),
     (9, b"", 0, 0, b"no failure in 9 cycles\n"),
-    (3, b"0 1", 0, 4, b"stimulus: NotYetBuilt\n"),
-    (3, b"0 2\n", 0, 4, b"stimulus: NotYetBuilt\n"),
-    (20, b"0 x\n", 0, 4, b"stimulus: NotYetBuilt\n"),
+    (3, b"00 01\r\n", 0, 0, b"no failure in 4 cycles\n"),
+    (3, b"0 1", 0, 4, b"stimulus: line 6: Truncated\n"),
+    (3, b"0 2\n", 0, 4, b"stimulus: line 6: TooLarge\n"),
+    (3, b"0 g\n", 0, 4, b"stimulus: line 6: BadValue\n"),
+    (3, b"0\n", 0, 4, b"stimulus: line 6: WrongCount\n"),
+    (3, b"\n0 g\n", 0, 4, b"stimulus: line 6: WrongCount\n"),
+    (20, b"0 x\n", 0, 4, b"stimulus: line 23: BadValue\n"),
+    (20, b"0", 0, 4, b"stimulus: line 23: Truncated\n"),
     (3, b"", 1, 6, b"input: read failed\n"),
     (3, b"", 4, 6, b"input: read failed\n"),
     (3, b"", 5, 0, b"no failure in 3 cycles\n"),
+    (
+        3,
+        b"2 0\n0 1\n0 1\n0 1\n0 1\n",
+        5,
+        4,
+        b"stimulus: line 6: TooLarge\n",
+    ),
     (20, b"", 8, 6, b"input: read failed\n"),
 ];
 
@@ -453,6 +494,6 @@ fn a_design_has_sixteen_files_at_most(rt: HostRuntime) -> Result<(), Fail> {
     words[1] = "cnt.v";
     assert!(rt; answers(rt.alloc(), &quiet(), &words)?);
     words.push("none.v")?;
-    assert!(rt; answers(rt.alloc(), &plain(3, 2, b"usage\n"), &words)?);
+    assert!(rt; answers(rt.alloc(), &plain(3, 2, b"usage: word 18\n"), &words)?);
     Ok(())
 }

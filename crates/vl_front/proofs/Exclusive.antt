@@ -1,5 +1,5 @@
 -- A text has one first fault at most, and none where its tokens are a source.
-use Rattle.std.proofs.Common.{◌≡◌, ℕ, List, Ok, Err, inl, inr, sym, ◌∙◌, ap, subst}
+use Rattle.std.proofs.Common.{◌≡◌, ℕ, List, true, false, Ok, Err, inl, inr, sym, ◌∙◌, ap, subst}
 use Rattle.vl_tree.specs.declared.fault.FaultKind.TheVariants as k
 use Rattle.vl_tree.specs.Token.{Tokens}
 use Rattle.vl_tree.specs.Tree.{Module}
@@ -7,6 +7,8 @@ use Rattle.vl_tree.specs.Placed.{placed}
 use Rattle.vl_source.proofs.Refusals.{refusal_law}
 use Rattle.vl_front.specs.Spelled.{Fault, spelled}
 use Rattle.vl_front.specs.FirstFault.{AreSource, tree_fault, HasTreeFault, HasFirst}
+use Rattle.vl_tree.specs.Derives.{IsSource}
+use Rattle.vl_front.specs.Top.{Asked, is_topless, HasNoTop}
 use Rattle.vl_front.specs.OneModule.{IsOneModule}
 use Rattle.vl_front.specs.Laws.{HaveOneFault, SourcesHaveNone}
 
@@ -42,5 +44,13 @@ one_fault text f g (inr (ts, d, h)) (inl e) = absurd (not_spelled text ts g d e)
 one_fault text f g (inr (ts, d, a)) (inr (us, e, b)) =
     one_tree_fault ts f g a (subst (λ x. HasTreeFault x g) (sym (one_list text ts us d e)) b)
 
-pub no_fault : (text : List ℕ) (m : Module) (f : Fault) → IsOneModule text m → HasFirst text f → ⊥
-no_fault text m f i h = sources_have_none text i.tokens f i.is_spelled i.source h
+-- nor has one that is a module's text
+pub no_fault : (text : List ℕ) (top : Asked) (m : Module) (f : Fault) → IsOneModule text top m → HasFirst text f → ⊥
+no_fault text top m f i h = sources_have_none text i.tokens f i.is_spelled (i.have_top.0, i.have_top.1) h
+
+-- and that has a top
+pub no_lack : (text : List ℕ) (top : Asked) (m : Module) (line : ℕ) → IsOneModule text top m → HasNoTop text top line → ⊥
+no_lack text top m line i h =
+    let s = i.have_top.0 in
+    let is = subst (λ us. IsSource (placed 0 us) s) (one_list text i.tokens h.0 i.is_spelled h.1) i.have_top.1 in
+    let t : true ≡ false = sym (h.2.1 s is) ∙ i.have_top.2 in absurd cc

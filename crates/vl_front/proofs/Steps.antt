@@ -24,7 +24,12 @@ use Rattle.vl_pre.specs.CleanText.{clean_text}
 use Rattle.vl_lex.specs.Tokens.{tokens_of}
 use Rattle.vl_front.specs.Spelled.{by_clean_text}
 use Rattle.vl_front.specs.Calls.Faults.{of_static, of_source, of_tree}
-use Rattle.vl_front.specs.FirstFault.{AreSource, line_of, line_at}
+use Rattle.vl_tree.specs.Syntax.{Source}
+use Rattle.vl_tree.specs.Placed.{placed}
+use Rattle.vl_tree.specs.Modules.{source_at}
+use Rattle.vl_tree.specs.Derives.{IsSource}
+use Rattle.vl_front.specs.FirstFault.{line_of, line_at}
+use Rattle.vl_front.specs.Top.{Asked, is_topless, is_asked, HaveTop, HaveNoTop}
 use Rattle.vl_front.specs.Reads.{Reads}
 use Rattle.vl_front.specs.Calls.First.{IsSpellingFault, IsTreeFault}
 use Rattle.vl_front.specs.OneModule.{IsOneModule, IsDesign, IsNoDesign}
@@ -32,10 +37,15 @@ use Rattle.vl_front.specs.declared.fault.DesignFault.{DesignFault}
 use Rattle.vl_front.specs.declared.fault.DesignFault.TheVariants as f
 
 -- a refusal of the tokens, with its line
-pub source_first : (ts : Tokens) (e : source.SynFault) → parsed.IsRefused ts e → IsTreeFault ts (of_source ts e)
-source_first ts (refused_source.At n) h = (Some n, (n, inl (h, refl)))
-source_first ts (refused_source.Deep n) h = (Some n, (n, inr (h, refl)))
-source_first ts refused_source.Memory h = tt
+pub source_first : (top : Asked) (ts : Tokens) (e : source.SynFault) → parsed.IsRefused ts e → IsTreeFault top ts (of_source ts e)
+source_first top ts (refused_source.At n) h = (Some n, (n, inl (h, refl)))
+source_first top ts (refused_source.Deep n) h = (Some n, (n, inr (h, refl)))
+source_first top ts refused_source.Memory h = tt
+
+-- the one source that the tokens are has no top
+pub one_has_none : (top : Asked) (ts : Tokens) (s : Source) (line : ℕ) → IsSource (placed 0 ts) s → ((t : Source) → source_at t (placed 0 ts) [] → t ≡ s)
+    → is_topless top s ≡ true → line ≡ line_at ts 0 → HaveNoTop top ts line
+one_has_none top ts s line is only e l = ((s, is), λ t h. ap (is_topless top) (only t h.derives) ∙ e, l)
 
 -- a fault of the clean text is the text's first
 pub clean_first : (text : List ℕ) (e : StaticFault) → HasFault (clean_text text) (fault_of e) → IsSpellingFault (spelled text) (of_static e)
@@ -47,41 +57,54 @@ pub token_first : (text : List ℕ) (clean : Text) (e : StaticFault) → clean_t
 token_first text clean (static.At phase place kind) c h = (place.token, ap by_clean_text c ∙ h)
 token_first text clean static.Memory c h = tt
 
-module _ (text : List ℕ) (ts : Tokens) (is : spelled text ≡ Ok ts) where
+module _ (text : List ℕ) (top : Asked) (ts : Tokens) (is : spelled text ≡ Ok ts) where
   -- a text has one list of tokens, so its module derives from that
-  derived : (m : Module) → IsOneModule text m → Derives ts m
+  derived : (m : Module) → IsOneModule text top m → Derives ts m
   derived m i =
       let e : i.tokens ≡ ts = let f = i.is_spelled in cc in
       subst (λ (x : Tokens). Derives x m) e i.derived
 
-  -- why a text is refused whose tokens are no source
-  pub no_source : (e : DesignFault) → IsTreeFault ts e → Reads text (Err e)
+  -- why a text is refused whose tokens are no source with a top
+  pub no_source : (e : DesignFault) → IsTreeFault top ts e → Reads text top (Err e)
   no_source (f.At phase line kind) h = (h.0, inr (ts, is, h.1))
+  no_source (f.NoTop line) h = (ts, is, h)
   no_source f.NotYetBuilt h = absurd h
   no_source f.Memory h = tt
 
   -- where no module derives from the tokens, the text is no module's
-  no_tree : AreSource ts → ((m : Module) → Derives ts m → ⊥) → IsNoDesign text
-  no_tree s none = record { tokens = ts; is_spelled = is; source = s; none = λ m i. none m (derived m i) }
+  no_tree : HaveTop top ts → ((m : Module) → Derives ts m → ⊥) → IsNoDesign text top
+  no_tree s none = record { tokens = ts; is_spelled = is; have_top = s; none = λ m i. none m (derived m i) }
 
   -- the same of the fault that says so
-  pub refused : AreSource ts → (e : SynFault) → IsRefused ts e → Reads text (Err (of_tree e))
+  pub refused : HaveTop top ts → (e : SynFault) → IsRefused ts e → Reads text top (Err (of_tree e))
   refused s tree.NoTree h = no_tree s h
   refused s tree.Memory h = tt
 
-  module _ (src : AreSource ts) (m : Module) (only : (n : Module) → Derives ts n → n ≡ m) where
-    -- where the one module that derives has a static fault, the text is no module's
-    pub unsound : false ≡ is_sound m → IsNoDesign text
+  module _ (src : HaveTop top ts) (m : Module) (only : (n : Module) → Derives ts n → n ≡ m) where
+    -- where the one module that derives isn't the top that is asked for, the text is no module's
+    pub not_asked : is_asked top m.name ≡ false → IsNoDesign text top
+    not_asked s = record {
+      tokens = ts;
+      is_spelled = is;
+      have_top = src;
+      none = λ n i. let t : true ≡ false = sym i.is_top ∙ ap (λ x. is_asked top x.name) (only n (derived n i)) ∙ s in absurd cc;
+    }
+
+    -- where it has a static fault, neither
+    pub unsound : false ≡ is_sound m → IsNoDesign text top
     unsound s = record {
       tokens = ts;
       is_spelled = is;
-      source = src;
+      have_top = src;
       none = λ n i. let t : true ≡ false = sym i.sound ∙ ap is_sound (only n (derived n i)) ∙ sym s in absurd cc;
     }
 
-    -- where it has none, the text is that module's alone
-    pub accepted : Derives ts m → is_sound m ≡ true → IsDesign text m
-    accepted d s = record { here = record { tokens = ts; is_spelled = is; source = src; derived = d; sound = s }; only = λ n i. only n (derived n i) }
+    -- else the text is that module's alone
+    pub accepted : Derives ts m → is_asked top m.name ≡ true → is_sound m ≡ true → IsDesign text top m
+    accepted d a s = record {
+      here = record { tokens = ts; is_spelled = is; have_top = src; derived = d; is_top = a; sound = s };
+      only = λ n i. only n (derived n i);
+    }
 
 -- ---- lines
 

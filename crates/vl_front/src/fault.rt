@@ -21,7 +21,12 @@ pub enum DesignFault {
         line: u32,
         kind: FaultKind,
     },
-    /// It has no fault of these phases, but isn't the text of a sound module with one clocked block.
+    /// It has no fault of these phases, and no module is its top, on the line of its first token. It has no kind of its own among the
+    /// shared ones before the other faults of phase 4 have theirs.
+    NoTop {
+        line: u32,
+    },
+    /// It has no fault of these, but isn't the text of a sound module with one clocked block.
     NotYetBuilt,
     /// Out of memory.
     Memory,
@@ -70,8 +75,8 @@ impl From<NoMemory> for DesignFault {
     }
 }
 
-// The line of the token of this number; of the last one, where there are no more; the first line, where there is none.
-fn line_at(tokens: &[Token], number: u32) -> u32
+/// The line of the token of this number; of the last one, where there are no more; the first line, where there is none.
+pub fn line_at(tokens: &[Token], number: u32) -> u32
     ensures { result ≡ first.line_at (all_coded tokens.now) number }
 {
     match tokens.get((number as usize).min(tokens.len().saturating_sub(1))) {

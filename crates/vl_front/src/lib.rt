@@ -3,37 +3,43 @@
 //! Below: `vl_pre` (clean text), `vl_lex` (tokens), `vl_source` (whether they are a source), `vl_module` (the tree of one module with one
 //! clocked block), `vl_scope` (static faults), `vl_proc` (numbered design). Above: `dessert`.
 //! Promise: `read_design` answers the first fault of the clean text, of the tokens or of the grammar, with its line, exactly where
-//! there is one (`specs/FirstFault`); of the other texts it accepts exactly those of sound modules with one clocked block
-//! (`specs/OneModule`), and its design stands for the module (`StandsFor` of `vl_meaning`). `fault_laws`: a text has one first fault
-//! at most, and none where its tokens are a source.
+//! there is one (`specs/FirstFault`), and NoTop exactly where of the other texts one has no module that may be the top (`specs/Top`);
+//! of the texts that are left it accepts exactly those of sound modules with one clocked block (`specs/OneModule`), and its design
+//! stands for the module (`StandsFor` of `vl_meaning`). `fault_laws`: a text has one first fault at most, and none where its tokens
+//! are a source.
 //! Not said: which later fault a text has that is refused as `NotYetBuilt`; that memory is enough.
 #![tactic(auto)]
 
 ghost use Rattle.std.specs.Prelude.{◌≡◌, ◌<◌, ◌≤◌, ◌^◌, ◌-◌, length, Ok, IfOk, OnOk, IfErr};
 ghost use Rattle.vl_tree.specs.Token.{all_coded};
 ghost use Rattle.vl_front.specs.Spelled.{spelled};
-ghost use Rattle.vl_front.specs.FirstFault.{AreSource};
+ghost use Rattle.vl_front.specs.Top.{HaveTop, asked};
 ghost use Rattle.vl_front.specs.Laws.{HaveOneFault, SourcesHaveNone};
 ghost use Rattle.vl_front.specs.Reads.{Reads};
 ghost use Rattle.vl_front.specs.Calls.First.{IsSpellingFault, IsTreeFault};
 
 mod fault;
+mod top;
 
 use dt_core::limits::MAX_TOKENS;
 pub use fault::DesignFault;
-use fault::in_source;
+use fault::{in_source, line_at};
 use flat_ir::flat::Flat;
 use std::alloc::Global;
+use top::{is_asked, is_topless};
 use vl_tree::token::Token;
 
-/// The numbered design of a text of fewer than 2^32-1 bytes.
-pub fn read_design(alloc: Global, text: &[u8]) -> Result<Flat, DesignFault>
+/// The numbered design of a text of fewer than 2^32-1 bytes, whose top has this name, where one is asked for.
+pub fn read_design(alloc: Global, text: &[u8], top: Option<&[u8]>) -> Result<Flat, DesignFault>
     requires { length text.now < 2 ^ 32 - 1 }
-    ensures { Reads text.now result }
+    ensures { Reads text.now (asked top.entry) result }
 {
     let tokens = read_tokens(alloc, text)?;
-    check_source(alloc, &tokens)?;
+    check_source(alloc, &tokens, top)?;
     let module = vl_module::parse_module(alloc, &tokens)?;
+    if !is_asked(module.name.bytes(), top) {
+        return Err(DesignFault::NotYetBuilt);
+    }
     if !vl_scope::is_sound(alloc, &module)? {
         return Err(DesignFault::NotYetBuilt);
     }
@@ -57,14 +63,21 @@ fn read_tokens(alloc: Global, text: &[u8]) -> Result<Vec<Token>, DesignFault>
     Ok(vl_lex::lex(alloc, &clean)?)
 }
 
-// Whether all of the tokens are a source. Its tree isn't looked at.
-fn check_source(alloc: Global, tokens: &[Token]) -> Result<(), DesignFault>
+// Whether all of the tokens are a source, and that has a top. Its tree isn't kept.
+fn check_source(alloc: Global, tokens: &[Token], top: Option<&[u8]>) -> Result<(), DesignFault>
     requires { length tokens.now < 2 ^ 32 - 1 }
-    ensures source { OnOk result (AreSource (all_coded tokens.now)) }
-    ensures fault { IfErr result (IsTreeFault (all_coded tokens.now)) }
+    ensures source { OnOk result (HaveTop (asked top.entry) (all_coded tokens.now)) }
+    ensures fault { IfErr result (IsTreeFault (asked top.entry) (all_coded tokens.now)) }
 {
-    if let Err(fault) = vl_source::parse_source(alloc, tokens) {
-        return Err(in_source(tokens, fault));
+    match vl_source::parse_source(alloc, tokens) {
+        Ok(source) => {
+            if is_topless(&source, top) {
+                return Err(DesignFault::NoTop {
+                    line: line_at(tokens, 0),
+                });
+            }
+            Ok(())
+        }
+        Err(fault) => Err(in_source(tokens, fault)),
     }
-    Ok(())
 }

@@ -3,7 +3,8 @@ use Rattle.std.specs.Prelude.{◌≡◌, Bool, true, false, ℕ, List, ◌⊎◌
 use Rattle.std.specs.Io.KnownBytes.{Appends, Keeps}
 use Rattle.dt_core.specs.Causes.{Rose, AppendsPart}
 use Rattle.dessert.specs.Outside.{SinkAt}
-use Rattle.dessert.specs.Report.{write_failed_text}
+use Rattle.talk.specs.declared.answer.Answer.TheVariants as a
+use Rattle.talk.specs.Report.{report_text}
 use Rattle.dessert.specs.Answer.{Status, quiet, failure, writing, reporting, memory}
 
 -- the status of a job that is done
@@ -40,5 +41,5 @@ Reported text status result old new = ((result ≡ memory) × IsLeft old new) �
 abbrev pub Delivered : List ℕ → List ℕ → Status → Status → SinkAt → SinkAt → SinkAt → SinkAt → Type 0
 Delivered text report status result out out' old new =
     (Took out out' text × Reported report status result old new)
-    ⊎ ((Broke out out' text × Wrote write_failed_text writing result old new)
+    ⊎ ((Broke out out' text × Wrote (report_text a.OutputFailed) writing result old new)
     ⊎ ((result ≡ memory) × Stopped out out' text × IsLeft old new))

@@ -1,18 +1,18 @@
 -- What is written of a run over all rows, or of a stimulus that was refused or broke off. This project's own.
 use Rattle.std.specs.Prelude.{◌≡◌, ℕ, suc, List, [], map, Option, Some, None}
-use Rattle.stim.specs.declared.reader.StimFault.{StimFault}
-use Rattle.stim.specs.declared.reader.StimFault.TheVariants as s
+use Rattle.stimulus.specs.declared.refusal.StimFault.{StimFault}
+use Rattle.stimulus.specs.declared.refusal.StimFault.TheVariants as s
+use Rattle.talk.specs.declared.answer.Answer.TheVariants as a
+use Rattle.talk.specs.Report.{report_text, failure_text, quiet_text}
 use Rattle.flat_ir.specs.FlatRun.{Flat}
 use Rattle.dessert.specs.Outside.{SinkAt}
-use Rattle.dessert.specs.Report.{stop_of, failure_text, quiet_text, stimulus_refused_text, read_failed_text}
+use Rattle.dessert.specs.Reported.{stop_of, refusal_report}
 use Rattle.dessert.specs.Answer.{Status, quiet, failure, input, reading, memory}
 use Rattle.dessert.specs.Sources.{Origins}
 use Rattle.dessert.specs.Outcome.{window_start}
 use Rattle.dessert.specs.Calls.Progress.{Failure, Progress}
 use Rattle.dessert.specs.Calls.Again.{wave_until}
-use Rattle.dessert.specs.Calls.Writing.{IsLeft, Wrote, Delivered}
-use Rattle.dessert.specs.declared.rows.RowsFault.{RowsFault}
-use Rattle.dessert.specs.declared.rows.RowsFault.TheVariants as f
+use Rattle.dessert.specs.Calls.Writing.{IsLeft, Wrote, Reported, Delivered}
 
 -- the status, the output and the report of a first failure, or of none in so many cycles
 abbrev pub ended_by : Option Failure → Status
@@ -32,18 +32,8 @@ abbrev pub RunIsWritten : ℕ → Origins → Flat → List (List ℕ) → Progr
 RunIsWritten lag o f rows p result out out' old new =
     Delivered (out_by lag f rows p.failure) (text_by lag f.name o p.cycles p.failure) (ended_by p.failure) result out out' old new
 
--- the status and the report of a stimulus that was refused, or whose source failed
-abbrev pub refusal_status : StimFault → Status
-refusal_status s.NotBuilt = input
-refusal_status s.Truncated = input
-refusal_status s.Read = reading
-
-abbrev pub refusal_text : StimFault → List ℕ
-refusal_text s.NotBuilt = stimulus_refused_text
-refusal_text s.Truncated = stimulus_refused_text
-refusal_text s.Read = read_failed_text
-
--- that report was written whole or in part; or nothing was, as there was no memory
-abbrev pub GivesUp : RowsFault → Status → SinkAt → SinkAt → Type 0
-GivesUp (f.Stimulus e) result old new = Wrote (refusal_text e) (refusal_status e) result old new
-GivesUp f.Memory result old new = (result ≡ memory) × IsLeft old new
+-- the report of a run that didn't come to the end of its rows was written, whole or in part; or nothing was, as there was no memory
+abbrev pub GivesUp : StimFault → Status → SinkAt → SinkAt → Type 0
+GivesUp (s.Refused r) result old new = Reported (refusal_report r) input result old new
+GivesUp s.Read result old new = Wrote (report_text a.InputFailed) reading result old new
+GivesUp s.Memory result old new = (result ≡ memory) × IsLeft old new

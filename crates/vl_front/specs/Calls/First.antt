@@ -3,6 +3,7 @@ use Rattle.std.specs.Prelude.{◌≡◌, ℕ, Option, Result, Err}
 use Rattle.vl_tree.specs.Fault.{Fault}
 use Rattle.vl_tree.specs.Token.{Tokens}
 use Rattle.vl_front.specs.FirstFault.{HasTreeFault}
+use Rattle.vl_front.specs.Top.{Asked, HaveNoTop}
 use Rattle.vl_front.specs.declared.fault.DesignFault.{DesignFault}
 use Rattle.vl_front.specs.declared.fault.DesignFault.TheVariants as f
 
@@ -10,12 +11,14 @@ use Rattle.vl_front.specs.declared.fault.DesignFault.TheVariants as f
 abbrev pub IsSpellingFault : Result Tokens Fault → DesignFault → Type 0
 IsSpellingFault r (f.At phase line kind) =
     (token : Option ℕ) × (r ≡ Err (record { phase = phase; line = line; token = token; kind = kind }))
+IsSpellingFault r (f.NoTop line) = ⊥
 IsSpellingFault r f.NotYetBuilt = ⊥
 IsSpellingFault r f.Memory = Unit {0}
 
--- the tokens have this fault of phase 3; or out of memory
-abbrev pub IsTreeFault : Tokens → DesignFault → Type 0
-IsTreeFault ts (f.At phase line kind) =
+-- the tokens have this fault of phase 3, or no top; or out of memory
+abbrev pub IsTreeFault : Asked → Tokens → DesignFault → Type 0
+IsTreeFault top ts (f.At phase line kind) =
     (token : Option ℕ) × HasTreeFault ts (record { phase = phase; line = line; token = token; kind = kind })
-IsTreeFault ts f.NotYetBuilt = ⊥
-IsTreeFault ts f.Memory = Unit {0}
+IsTreeFault top ts (f.NoTop line) = HaveNoTop top ts line
+IsTreeFault top ts f.NotYetBuilt = ⊥
+IsTreeFault top ts f.Memory = Unit {0}

@@ -1,6 +1,6 @@
 use Rattle.std.proofs.Common.{◌≡◌, ◌++◌, ◌∷◌, [], refl, ap, ◌∙◌, rules, arith}
 use Rattle.dessert.specs.Outside.{FilesAt, files_at}
-use Rattle.dessert.specs.Named.{named}
+use Rattle.talk.specs.Plain.{named}
 use Rattle.dessert.proofs.LoadLaws.{none_yet, one_more, all_loaded, front_loaded, failed_since, long_since, named_at, named_length}
 use Rattle.dessert.proofs.sources.load_sources.Goals as goal
 

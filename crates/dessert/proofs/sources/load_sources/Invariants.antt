@@ -1,6 +1,6 @@
 use Rattle.std.proofs.Common.{◌≡◌}
 use Rattle.dessert.specs.Outside.{files_at}
-use Rattle.dessert.specs.Named.{named}
+use Rattle.talk.specs.Plain.{named}
 use Rattle.dessert.proofs.LoadLaws.{Front}
 use Rattle.dessert.proofs.sources.load_sources.Given as goal
 

@@ -3,7 +3,8 @@ use Rattle.std.specs.Prelude.{Ok, Err, IfOk}
 use Rattle.flat_ir.specs.FlatRun.{Flat}
 use Rattle.vcd_text.specs.declared.fault.VcdFault.TheVariants as fault
 use Rattle.dessert.specs.Outside.{sink_at}
-use Rattle.dessert.specs.Report.{stop_of, failure_text}
+use Rattle.talk.specs.Report.{report_text, failure_text}
+use Rattle.dessert.specs.Reported.{stop_of}
 use Rattle.dessert.specs.Answer.{memory}
 use Rattle.dessert.specs.Calls.Ended.{status_of}
 use Rattle.dessert.proofs.StepsLaws.{reported_again, wrote_again, lag_below, runs_again}
@@ -18,16 +19,16 @@ pub returns-in-Ok-clause-written : goal.returns-in-Ok-clause-written
 returns-in-Ok-clause-written g c = λ rows r.
     let wave = told c.args.run.now.flat rows c.args.run.now c.args.failure.now c.requires.failed r c.args.lag c.saturating_sub-first.result c.flat.result.now c.window.result.now (sink_at g.V.Sink c.args.out.now) (sink_at g.V.Sink c.write_window.new.out) (Ok tt) c.flat.ensures c.window.ensures
     (c.saturating_sub-first.ensures ∙ (λ i. (c.failure.view_is i).cycle - c.from.ensures i)) (lag_below c.args.lag c.args.run.now.window.period c.requires.period) c.in-Ok.ensures.waves in
-    let text = subst (λ (z : Flat × ℕ). IfOk c.failure_report.result (λ t. t.items ≡ failure_text c.args.failure.now.cycle (map (stop_of z.0.name c.args.origins.now) c.args.failure.now.fired) z.1))
+    let text = subst (λ (z : Flat × ℕ). IfOk c.failure_report.result (λ it. report_text it ≡ failure_text c.args.failure.now.cycle (map (stop_of z.0.name c.args.origins.now) c.args.failure.now.fired) z.1))
     (λ k. (c.flat-in-Ok.ensures k, (c.saturating_sub-first.ensures ∙ (λ i. (c.failure.view_is i).cycle - c.from.ensures i)) k)) c.failure_report.ensures in
-    both_written c.args.run.now.flat rows c.args.run.now c.args.failure.now c.requires.failed r c.args.lag c.args.origins.now (status_of c.finish_text.result) (sink_at g.V.Sink c.args.out.now) (sink_at g.V.Sink c.write_window.new.out) (sink_at g.T.Sink c.args.report.now) (sink_at g.T.Sink c.finish_text.new.report) wave (c.finish_text.ensures _ text)
+    both_written c.args.run.now.flat rows c.args.run.now c.args.failure.now c.requires.failed r c.args.lag c.args.origins.now (status_of c.finish_made.result) (sink_at g.V.Sink c.args.out.now) (sink_at g.V.Sink c.write_window.new.out) (sink_at g.T.Sink c.args.report.now) (sink_at g.T.Sink c.finish_made.new.report) wave (c.finish_made.ensures _ text)
 
 pub returns-in-Ok-clause-steps : goal.returns-in-Ok-clause-steps
 returns-in-Ok-clause-steps g c =
-    let text = subst (λ (z : Flat × ℕ). IfOk c.failure_report.result (λ t. t.items ≡ failure_text c.args.failure.now.cycle (map (stop_of z.0.name c.args.origins.now) c.args.failure.now.fired) z.1))
+    let text = subst (λ (z : Flat × ℕ). IfOk c.failure_report.result (λ it. report_text it ≡ failure_text c.args.failure.now.cycle (map (stop_of z.0.name c.args.origins.now) c.args.failure.now.fired) z.1))
     (λ k. (c.flat-in-Ok.ensures k, (c.saturating_sub-first.ensures ∙ (λ i. (c.failure.view_is i).cycle - c.from.ensures i)) k)) c.failure_report.ensures in
     runs_again c.args.lag c.args.run.now.window.period _ _ _ _ c.requires.period (few_kept c.args.run.now.flat c.requires.ran.0 c.args.run.now c.args.failure.now c.requires.failed c.requires.ran.1 c.window.result.now c.window.ensures) c.write_window.ensures.steps
-    (reported_again c.args.lag _ _ _ _ (c.finish_text.ensures _ text))
+    (reported_again c.args.lag _ _ _ _ (c.finish_made.ensures _ text))
 
 pub returns-in-Err-Write-clause-written : goal.returns-in-Err-Write-clause-written
 returns-in-Err-Write-clause-written g c = λ rows r.

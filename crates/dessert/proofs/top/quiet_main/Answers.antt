@@ -1,5 +1,5 @@
 use Rattle.dessert.specs.Outside.{outside_at}
-use Rattle.dessert.specs.Named.{named}
+use Rattle.talk.specs.Plain.{named}
 use Rattle.dessert.specs.Calls.Ended.{status_of}
 use Rattle.dessert.proofs.CompleteLaw.{ends}
 use Rattle.dessert.proofs.top.quiet_main.Goals as goal

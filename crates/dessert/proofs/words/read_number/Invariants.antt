@@ -1,8 +1,0 @@
-use Rattle.std.proofs.Common.{◌≡◌, ◌≤◌, ◌+◌, ◌*◌, ◌-◌, drop}
-use Rattle.std.specs.Prelude.{fold}
-use Rattle.dessert.specs.Words.{decimal_of}
-use Rattle.dessert.proofs.words.read_number.Given as goal
-
--- the digits so far make this number, and those that are left go on from it
-abbrev pub invariant-loop-digit : goal.invariant-loop-digit
-invariant-loop-digit l = (fold (λ n d. 10 * n + (d - 48)) l.number (drop l.digit-index l.digits) ≡ decimal_of l.digits) × (l.number ≤ l.most)
