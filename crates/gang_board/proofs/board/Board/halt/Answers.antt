@@ -1,0 +1,21 @@
+use Rattle.std.proofs.Common.{ℕ, ◌+◌, ◌%◌, ◌^◌, sym, ap, subst, arith}
+use mathlib.Core.Option.{none}
+use Rattle.atomic_table.specs.Table.{step, Allows}
+use Rattle.atomic_table.specs.Seated.{TableId}
+use Rattle.gang_board.specs.Rule.{Ruled}
+use Rattle.gang_board.specs.Plays.{halts}
+use Rattle.gang_board.specs.Told.{leader}
+use Rattle.gang_board.proofs.PostSeats.{leader_place_there, halt_allowed}
+use Rattle.gang_board.proofs.board.Board.halt.Goals as goal
+
+pub fetch_add-requires : goal.fetch_add-requires
+fetch_add-requires c =
+    let p = c.args.post.now in let t = c.args.self.now.table.shared in
+    let place = c.leader_place.ensures in
+    let there = leader_place_there p.seat.table_id.words p.number (leader p) p.seat.me p.is in
+    let same = ap (λ (x : TableId). x.words) c.requires.board in (
+      c.requires.board,
+      omega (arith, place, there, same),
+      subst (λ (w : ℕ). Allows Ruled t.table_id.slots p.seat.id p.seat.me w (λ n. (n + 1) % 2 ^ 64) (halts (step t.table_id.slots w 1 0 none) p.seat.me)) (sym place)
+          (halt_allowed p.seat.table_id.words p.number (leader p) p.seat.me p.is t.table_id.slots p.seat.id (step t.table_id.slots c.leader_place.result 1 0 none) c.requires.may),
+    )

@@ -1,0 +1,17 @@
+use Rattle.std.proofs.Common.{ap, arith}
+use mathlib.Core.Option.{none}
+use Rattle.atomic_table.specs.Table.{step}
+use Rattle.atomic_table.specs.Seated.{TableId}
+use Rattle.gang_board.specs.Told.{leader}
+use Rattle.gang_board.proofs.PostSeats.{fire_place_there, see_fire_allowed}
+use Rattle.gang_board.proofs.board.Board.see_fire.Goals as goal
+
+pub load-found-requires : goal.load-found-requires
+load-found-requires c =
+    let p = c.args.post.now in let t = c.args.self.now.table.shared in
+    let there = fire_place_there p.seat.table_id.words p.number (leader p) p.seat.me p.is in
+    let same = ap (λ (x : TableId). x.words) c.requires in (
+      c.requires,
+      omega (arith, there, same),
+      see_fire_allowed p.seat.table_id.words p.number (leader p) p.seat.me p.is t.table_id.slots p.seat.id (step t.table_id.slots 0 0 0 none),
+    )

@@ -1,0 +1,24 @@
+//! Channels: from one partition of a cut design to another, between threads.
+//!
+//! A channel carries a token for each cycle, in order: what the taker reads of the giver's registers. It is a queue of
+//! tokens under a rule, and a queue of used ones on the way back, so that tokens are filled in place and no call on an
+//! end takes memory.
+//!
+//! Below: `named_run`, the run that contracts name; the kit's `crossbeam_queue`. Above: what runs partitions on
+//! threads, which knows channels by the traits of `ends` and `pairs` alone.
+//! Promise: between any two steps, whoever makes them, a channel's queue holds the run's tokens in order, from the count
+//! taken up to the count given, and at most as many as its depth (`specs/Line`), and the queue on the way back those that
+//! were put and not got, in order, at most as many, each of the channel's shape (`specs/Spares`): these are the rules of
+//! the queues, so no order of steps breaks them. Each end tells its own counts and used tokens, and how far it knows the
+//! other's (`specs/Ends`): what it knows of, it is answered. `catch_up` tells how both stand, and `close` gives all used
+//! tokens. Not said: that a refused call made its own attempt, or that any call returns; calls on ruled ends may wait
+//! behind another thread.
+#![tactic(auto)]
+
+pub mod ends;
+pub mod open;
+pub mod pairs;
+pub mod queues;
+pub mod ruled;
+pub mod rules;
+pub mod view;

@@ -1,0 +1,62 @@
+//! What makes channels.
+
+ghost use Rattle.std.specs.Prelude.{◌≡◌, ◌+◌, ◌≤◌, ℕ, min, All, IfOk, length};
+ghost use Rattle.named_run.specs.Named.{HasShape, token_of};
+ghost use Rattle.token_chan.specs.Ends.{Giver, Taker, AreEnds, AreNewEnds, TokensStand, UsedStand, IsClosed, most};
+
+use crate::ends::{GiveEnd, TakeEnd};
+use dt_core::fault::NoMemory;
+use named_run::run::RunName;
+use named_run::token::Token;
+use std::alloc::Global;
+
+/// The most tokens that a channel holds.
+pub const MAX_TOKENS_HELD: u32 = 64;
+
+/// Makes channels, and counts the tokens that were sent over those that it closed.
+pub trait Pairs: Send {
+    type Give: GiveEnd + Send + Drop;
+
+    type Take: TakeEnd + Send + Drop;
+
+    ghost sent: { Self → ℕ };
+
+    /// A channel that holds the token `first`, of the cycle that it tells, and the used tokens `blanks` for the rest of its
+    /// depth.
+    fn pair<N: RunName>(
+        &self,
+        alloc: Global,
+        channel: u32,
+        depth: u32,
+        first: Token,
+        blanks: Vec<Token>,
+    ) -> Result<(Self::Give, Self::Take), NoMemory>
+        requires depth { (2 ≤ depth) × (depth ≤ MAX_TOKENS_HELD) }
+        requires first { first ≡ token_of N.run channel first.cycle }
+        requires count { length blanks.items + 1 ≡ depth }
+        requires blanks { All (HasShape N.run channel) blanks.items }
+        ensures { IfOk result (λ ends. AreNewEnds (record { run = N.run; channel = channel; depth = depth }) first.cycle blanks.items (Self.Give.GiveEnd.told ends.0) (Self.Take.TakeEnd.told ends.1)) };
+
+    /// Lets each end know the other's counts as they are, and begin to count refusals anew. It tells how the two stand.
+    fn catch_up(&self, give: &mut Self::Give, take: &mut Self::Take)
+        requires { AreEnds (Self.Give.GiveEnd.told give.old) (Self.Take.TakeEnd.told take.old) }
+        ensures give { Self.Give.GiveEnd.told give.new ≡ record (Self.Give.GiveEnd.told give.old) { known = (Self.Take.TakeEnd.told take.old).taken; known_put = length (Self.Take.TakeEnd.told take.old).put; refusals = 0 } }
+        ensures take { Self.Take.TakeEnd.told take.new ≡ record (Self.Take.TakeEnd.told take.old) { known = (Self.Give.GiveEnd.told give.old).given; known_got = length (Self.Give.GiveEnd.told give.old).got; refusals = 0 } }
+        ensures tokens { TokensStand (Self.Give.GiveEnd.told give.old) (Self.Take.TakeEnd.told take.old) }
+        ensures used { UsedStand (Self.Give.GiveEnd.told give.old) (Self.Take.TakeEnd.told take.old) };
+
+    /// The oldest token of the channel, and all its used tokens. What the giver has given is counted as sent.
+    fn close(
+        &mut self,
+        alloc: Global,
+        give: Self::Give,
+        take: Self::Take,
+    ) -> Result<(Option<Token>, Vec<Token>), NoMemory>
+        requires { AreEnds (Self.Give.GiveEnd.told give) (Self.Take.TakeEnd.told take) }
+        ensures tokens { IfOk result (λ r. IsClosed (Self.Give.GiveEnd.told give) (Self.Take.TakeEnd.told take) r.0 r.1.items) }
+        ensures sent { sent self.new ≡ min (sent self.old + (Self.Give.GiveEnd.told give).sent) most };
+
+    /// How many tokens were sent over the channels that were closed.
+    fn sent(&self) -> u64
+        ensures { result ≡ sent self.now };
+}
