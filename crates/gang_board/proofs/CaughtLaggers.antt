@@ -2,7 +2,7 @@
 use Rattle.std.proofs.Common.{◌≡◌, ◌≢◌, ℕ, zero, suc, ◌+◌, ◌*◌, ◌<◌, ◌≤◌, List, [], ◌∷◌, ◌++◌, map, length, get_or, refl, sym, ap, ◌∙◌, subst, ⊎_elim, arith}
 use Rattle.std.specs.List.{range_with_len}
 use Rattle.std.proofs.lemmas.Bool.{cases_eq}
-use Rattle.std.proofs.lemmas.List.{length-append}
+use Rattle.std.proofs.lemmas.List.{length-replicate, length-append}
 use Rattle.std.proofs.lemmas.Grind.{merely}
 use Rattle.atomic_table.specs.Table.{Me, Splits}
 use Rattle.atomic_table.specs.declared.shared.Seat.{Seat}
@@ -164,6 +164,7 @@ module _ (b : Board) (c0 c1 c2 c3 theirs mine : Seat ℕ View) (q k m word : ℕ
             laggers = refl;
             there = there;
             sized = ap (λ (z : Lagger). length z.sights) lagger_post_is ∙ holds.sized q there;
+            looked = length-replicate c0.me.0.named.parts 0 ∙ ap (λ (n : Named). n.parts) (sym named_then);
             within = λ p l. (let a = (holds.sight q p there l).no_further in
                 let w = (holds.leader p l).within in
                 let e = ap (λ (z : Lagger). (sight z p).at) lagger_post_is in omega (arith, a, w, e));

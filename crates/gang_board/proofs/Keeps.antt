@@ -20,6 +20,8 @@ others_know a b n c d id j u leaders laggers ne k = record {
       (λ (x : HeldLeader) (h : HasLeader a n c j u.named x). (h.0, h.1, h.2 ∙ sym (leaders x.number (λ t. ne (sym h.1 ∙ t))), h.3)) u.leaders k.leaders;
   laggers = each_map (HasLagger b n c j u.named) (HasLagger b n d j u.named)
       (λ (x : HeldLagger) (h : HasLagger b n c j u.named x). (h.0, h.1, h.2 ∙ sym (laggers x.number (λ t. ne (sym h.1 ∙ t))), h.3)) u.laggers k.laggers;
+  leaders_apart = k.leaders_apart;
+  laggers_apart = k.laggers_apart;
 }
 
 module _ (n : Named) (s : State ℕ View) (h : Kept n s) (id : ℕ) (v : View) (at : get_elem? s.views id ≡ some v) where

@@ -11,7 +11,7 @@ use Rattle.gang_board.specs.Views.{Named, HeldLeader, HeldLagger, course, rested
 use Rattle.gang_board.specs.Rule.{Each, Ruled, leader_word, fire_word}
 use Rattle.gang_board.specs.declared.board.Board.{Board}
 use Rattle.gang_board.proofs.Steps.{see_fire_keeps, see_leader_keeps}
-use Rattle.gang_board.specs.Plays.{Stood, told, number_at, sees_fire, sees_leader, saw_fire, saw_leader, with_leaders, with_laggers}
+use Rattle.gang_board.specs.Plays.{Stood, told, number_at, sees_fire, FindsLeader, sees_leader, saw_fire, saw_leader, with_leaders, with_laggers}
 use Rattle.gang_board.specs.CatchUp.{all_present, caught_leader, caught_lagger, Looked, IsCarrier}
 use Rattle.gang_board.specs.declared.view.View.{View}
 use Rattle.gang_board.proofs.Lists.{each_map}
@@ -164,12 +164,10 @@ module _ (b : Board) (old now : Seat ℕ View) (carrier : IsCarrier b 0 0 old) w
 -- a look as the step tells it, by the number of its leader
 pub look_told : (old now next : Seat ℕ View) (p number found : ℕ) → number ≡ p → map (λ (x : HeldLeader). x.number) old.me.0.leaders ≡ range_with_len 0 old.me.0.named.parts → p < old.me.0.named.parts
     → Looking old p now → next.table_id ≡ now.table_id
-    → ((next.me ≡ (with_laggers (saw_leader number (told found)) now.me.0, now.me.1)) × Stood (with_laggers (saw_leader number (told found)) now.me.0))
-    × Each (λ (k : HeldLeader). k.number ≡ number → told found ≡ present k.post) now.me.0.leaders → Looking old (p + 1) next
+    → FindsLeader number found now.me next.me → Looking old (p + 1) next
 look_told old now next p number found e numbers l h board t =
-    let T : ℕ → Type 0 = λ q. ((next.me ≡ (with_laggers (saw_leader q (told found)) now.me.0, now.me.1)) × Stood (with_laggers (saw_leader q (told found)) now.me.0))
-    × Each (λ (k : HeldLeader). k.number ≡ q → told found ≡ present k.post) now.me.0.leaders in
-    let u : T p = subst T e t in look_more old now next p found numbers l h board u.0.0 u.0.1 u.1
+    let u : FindsLeader p found now.me next.me = subst (λ (q : ℕ). FindsLeader q found now.me next.me) e t in
+    look_more old now next p found numbers l h board u.0 u.1.0 u.1.3
 
 -- what leaders are once they have seen the fire word
 leaders_caught : (c : Posts) (f : ℕ) → f ≡ c.fire → (ls : List HeldLeader) → map rested_leader (map (saw_fire f) ls) ≡ map (caught_leader c) ls

@@ -166,6 +166,7 @@ module _ (b : Board) (r : RunData) (s : Setup) where
       laggers = refl;
       there = more;
       sized = length-replicate s.leaders record { at = s.leader_at; halted = false };
+      looked = length-replicate s.leaders 0;
       within = λ p l. subst (λ (x : Sight). x.at ≤ end_of r) (sym (get_or-replicate s.leaders p record { at = s.leader_at; halted = false } record { at = 0; halted = false } l)) begins.within;
       stood = merely record { posts = first_posts s.leaders s.leader_at s.lagger_at; holds = start_holds s r nonempty begins; is = refl };
       board = record { wide = wide; bound = begins.bound };

@@ -13,12 +13,12 @@ use Rattle.named_run.proofs.RunLaws.{no_run_fires}
 use Rattle.token_net.specs.Posts.{Lagger, Posts, first_posts, none_yet, PostsHold}
 use Rattle.token_net.proofs.PostsEnd.{posts_laws}
 use Rattle.gang_board.specs.Views.{Named, HeldLeader, HeldLagger, course, first_leader, first_lagger, leaders_from, laggers_from}
-use Rattle.gang_board.specs.Rule.{Each, HasLeader, HasLagger, Knows, fire_word, leader_word, lagger_word, word_count, leader_code, IsCoded, Kept, Ruled}
+use Rattle.gang_board.specs.Rule.{Each, Apart, leader_numbers, lagger_numbers, HasLeader, HasLagger, Knows, fire_word, leader_word, lagger_word, word_count, leader_code, IsCoded, Kept, Ruled}
 use Rattle.gang_board.specs.Plays.{everybody, names}
 use Rattle.gang_board.specs.Begins.{first_word, Begins}
 use Rattle.gang_board.specs.declared.view.View.{View}
 use Rattle.gang_board.specs.declared.setup.Setup.{Setup}
-use Rattle.gang_board.proofs.Lists.{each_map}
+use Rattle.gang_board.proofs.Lists.{each_map, each_of_list}
 use Rattle.gang_board.proofs.Words.{code_read}
 use Rattle.gang_board.proofs.Keeps.{stood}
 
@@ -43,6 +43,23 @@ module _ (P : HeldLagger → Type 0) (parts a b : ℕ) where
   lagger_there k zero j l u e = absurd (omega (arith, l, u))
   lagger_there k (suc m) j l u e = ⊎_elim (λ (s : j ≡ k). subst (λ (z : ℕ). P (first_lagger parts a b z)) (sym s) e.0)
       (λ (ne : j ≢ k). lagger_there (suc k) m j (omega (arith, l, ne)) (omega (arith, u)) e.1) (cases_eq j k)
+
+-- no post stands among them twice
+first_leaders : (a k m : ℕ) → Apart (leader_numbers (leaders_from a k m))
+first_leaders a k zero = tt
+first_leaders a k (suc m) = (
+  each_of_list (λ (q : ℕ). q ≢ k) (λ (x : HeldLeader). x.number) (leaders_from a (suc k) m)
+      (each_leader (λ (x : HeldLeader). x.number ≢ k) a (suc k) m (λ j l u e. omega (arith, l, e))),
+  first_leaders a (suc k) m,
+)
+
+first_laggers : (parts a b k m : ℕ) → Apart (lagger_numbers (laggers_from parts a b k m))
+first_laggers parts a b k zero = tt
+first_laggers parts a b k (suc m) = (
+  each_of_list (λ (q : ℕ). q ≢ k) (λ (x : HeldLagger). x.number) (laggers_from parts a b (suc k) m)
+      (each_lagger (λ (x : HeldLagger). x.number ≢ k) parts a b (suc k) m (λ j l u e. omega (arith, l, e))),
+  first_laggers parts a b (suc k) m,
+)
 
 -- ---- the first words
 
@@ -83,6 +100,8 @@ module _ (s : Setup) where
   knows_all n parts hl hg j leaders laggers = record {
     leaders = each_leader (HasLeader hl n start j n) s.leader_at 0 s.leaders (λ p _ l. (omega (arith, l, parts), leaders p (omega (arith, l)), refl, refl));
     laggers = each_lagger (HasLagger hg n start j n) s.leaders s.leader_at s.lagger_at 0 s.leaders (λ q _ l. (omega (arith, l, parts), laggers q (omega (arith, l)), refl, refl));
+    leaders_apart = first_leaders s.leader_at 0 s.leaders;
+    laggers_apart = first_laggers s.leaders s.leader_at s.lagger_at 0 s.leaders;
   }
 
   pub opens : 1 ≤ s.leaders → s.lagger_at ≡ s.leader_at - s.lag → Ruled (opening (map (first_word s) (range_with_len 0 (word_count s.leaders))) [] (everybody s))
@@ -150,6 +169,8 @@ module _ (s : Setup) where
                         (λ (k : HeldLeader) (q : HasLeader h.home_leader unnamed c j u.named k). absurd (x.0 (sym q.1 ∙ (leader_is k.number q.0).1))) u.leaders o.leaders;
                     laggers = each_map (HasLagger h.home_lagger unnamed c j u.named) (HasLagger h.home_lagger named start j u.named)
                         (λ (k : HeldLagger) (q : HasLagger h.home_lagger unnamed c j u.named k). absurd (x.0 (sym q.1 ∙ (lagger_is k.number q.0).1))) u.laggers o.laggers;
+                    leaders_apart = o.leaders_apart;
+                    laggers_apart = o.laggers_apart;
                   })
                   (at_set t.views id j w u e);
             };

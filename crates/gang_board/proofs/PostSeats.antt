@@ -1,12 +1,13 @@
 -- What the seat in a post allows, and what it is after a step.
-use Rattle.std.proofs.Common.{◌≡◌, ℕ, ◌+◌, ◌%◌, ◌^◌, ◌<◌, ◌≤◌, min, [], length, refl, sym, ap, ◌∙◌, subst, arith}
+use Rattle.std.proofs.Common.{◌≡◌, ℕ, ◌+◌, ◌%◌, ◌^◌, ◌<◌, ◌≤◌, min, List, [], map, length, refl, sym, ap, ◌∙◌, subst, arith}
 use Rattle.std.proofs.lemmas.Grind.{merely}
 use Rattle.atomic_table.specs.Table.{Me, Step, Allows}
-use Rattle.token_net.specs.Posts.{Leader, Lagger, MayRaise, MayHalt, MayReport, HasSeenFar, sight, most_rows}
+use Rattle.token_net.specs.Posts.{Leader, Lagger, Posts, PostsHold, MayRaise, MayHalt, MayReport, HasSeenFar, present, sight, with_sight, most_rows}
 use Rattle.gang_board.specs.Views.{HeldLeader, HeldLagger, course}
-use Rattle.gang_board.specs.Rule.{Ruled, fire_word, leader_word, lagger_word}
-use Rattle.gang_board.specs.Plays.{Stood, with_leaders, with_laggers, leader_view, lagger_view, raises, halts, reports, sees_fire, sees_leader, lag_raises, number_at}
+use Rattle.gang_board.specs.Rule.{Each, Ruled, fire_word, leader_word, lagger_word}
+use Rattle.gang_board.specs.Plays.{Stood, with_leaders, with_laggers, leader_view, lagger_view, raises, halts, reports, sees_fire, FindsLeader, sees_leader, lag_raises, number_at, told, saw_fire, saw_leader}
 use Rattle.gang_board.specs.Seats.{leader_looks_of, lagger_looks_of, IsLeaderSeat, IsLaggerSeat}
+use Rattle.gang_board.specs.Sights.{Grows}
 use Rattle.gang_board.specs.declared.view.View.{View}
 use Rattle.gang_board.proofs.Steps.{raise_keeps, halt_keeps, report_keeps, see_fire_keeps, see_leader_keeps, lag_raise_keeps}
 
@@ -45,6 +46,19 @@ module _ (words p : ℕ) (x : Leader) (me : Me ℕ View) (seat : IsLeaderSeat wo
   report_allowed slots id st t cycle may =
       subst (λ (m : Me ℕ View). Allows Ruled slots id m fire_word (λ w. min w t) (reports st m)) (sym leader_is)
       (report_keeps me.0.named slots id st has_leader t cycle may)
+
+  -- what was found of the fire word in a step of the seat
+  pub fire_falls : (found : ℕ) (st : Step ℕ) (now : Me ℕ View) → sees_fire st me found now → found ≤ x.seen
+  fire_falls found st now finds = (subst (Each (λ (k : HeldLeader). found ≤ k.post.seen)) seat.leaders finds.1.2).0
+
+  pub found_fire : (found : ℕ) (st : Step ℕ) (now : Me ℕ View) → sees_fire st me found now
+      → (c : Posts) × PostsHold (course me.0.named) c × (record x { seen = found } ≡ c.leader p) × (c.fire ≡ found)
+  found_fire found st now finds = let t = finds.1.0 in (
+    t.posts,
+    t.holds,
+    (subst (λ (l : List HeldLeader). Each (λ (k : HeldLeader). (k.number < me.0.named.parts) × (k.post ≡ t.posts.leader k.number)) (map (saw_fire found) l)) seat.leaders t.leaders).0.1,
+    finds.1.1,
+  )
 
   pub see_fire_allowed : (slots id : ℕ) (st : Step ℕ) → Allows Ruled slots id me fire_word (λ w. w) (sees_fire st me)
   see_fire_allowed slots id st = subst (λ (m : Me ℕ View). Allows Ruled slots id m fire_word (λ w. w) (sees_fire st m))
@@ -107,6 +121,19 @@ module _ (words q : ℕ) (y : Lagger) (me : Me ℕ View) (seat : IsLaggerSeat wo
       subst (λ (m : Me ℕ View). Allows Ruled slots id m (leader_word p) (λ w. w) (sees_leader st m)) (sym lagger_is)
       (see_leader_keeps me.0.named slots id st [] has_lagger [] p l number)
 
+  -- what was found of a leader in a step of the seat
+  pub seen_grows : (p found : ℕ) (now : Me ℕ View) → FindsLeader p found me now → Grows (sight y p) (told found)
+  seen_grows p found now finds = (subst (Each (λ (k : HeldLagger). Grows (sight k.post p) (told found))) seat.laggers finds.1.2).0
+
+  pub found_leader : (p found : ℕ) (now : Me ℕ View) → FindsLeader p found me now
+      → (c : Posts) × PostsHold (course me.0.named) c × (with_sight p (told found) y ≡ c.lagger q) × (told found ≡ present (c.leader p))
+  found_leader p found now finds = let t = finds.1.0 in (
+    t.posts,
+    t.holds,
+    (subst (λ (l : List HeldLagger). Each (λ (k : HeldLagger). (k.number < me.0.named.parts) × (k.post ≡ t.posts.lagger k.number)) (map (saw_leader p (told found)) l)) seat.laggers t.laggers).0.1,
+    finds.1.1,
+  )
+
   pub lagger_bound : HasSeenFar me.0.named.parts me.0.named.lag y → y.at < most_rows
   lagger_bound far = let f = far q seat.there in let w = seat.within q seat.there in let r = seat.board.bound in
       omega (arith, f, w, r)
@@ -117,8 +144,8 @@ module _ (words q : ℕ) (y : Lagger) (me : Me ℕ View) (seat : IsLaggerSeat wo
     lagger_now_is = becomes ∙ ap (λ (m : Me ℕ View). (with_laggers g m.0, m.1)) lagger_is
 
     pub lagger_after : (z : Lagger) → g has_lagger ≡ record { number = q; post = z; looks = (g has_lagger).looks }
-        → Stood (with_laggers g me.0) → IsLaggerSeat words q z now
-    lagger_after z changed stood =
+        → length (g has_lagger).looks ≡ me.0.named.parts → Stood (with_laggers g me.0) → IsLaggerSeat words q z now
+    lagger_after z changed looked stood =
         let k : HeldLagger = record { number = q; post = z; looks = (g has_lagger).looks } in
         let now_is : now ≡ (lagger_view me.0.named k, []) =
         lagger_now_is ∙ ap (λ (l : HeldLagger). (lagger_view me.0.named l, [])) changed in
@@ -131,6 +158,7 @@ module _ (words q : ℕ) (y : Lagger) (me : Me ℕ View) (seat : IsLaggerSeat wo
           laggers = refl;
           there = seat.there;
           sized = ap (λ (l : Lagger). length l.sights) is ∙ t.holds.sized q seat.there;
+          looked = looked;
           within = λ p l. (let a = (t.holds.sight q p seat.there l).no_further in
               let b = (t.holds.leader p l).within in
               let e = ap (λ (m : Lagger). (sight m p).at) is in omega (arith, a, b, e));

@@ -6,14 +6,15 @@ use lib.ListN.{get_elem?}
 use Rattle.atomic_table.specs.Table.{State, Step, keeps, Allows}
 use Rattle.named_run.specs.Named.{end_of}
 use Rattle.token_net.specs.Families.{put, one_if}
-use Rattle.token_net.specs.Posts.{Leader, Lagger, Posts, MayRaise, MayHalt, MayReport, HasSeenFar, present, sight, with_sight, most_rows, PostsHold}
+use Rattle.token_net.specs.Posts.{Sight, Leader, Lagger, Posts, MayRaise, MayHalt, MayReport, HasSeenFar, present, sight, with_sight, most_rows, PostsHold}
 use Rattle.token_net.proofs.Places.{choose, put_cases, put_same, put_other}
 use Rattle.token_net.proofs.PostsEnd.{posts_laws}
 use Rattle.gang_board.specs.Views.{Named, HeldLeader, HeldLagger, course}
-use Rattle.gang_board.specs.Rule.{Each, HasLeader, HasLagger, Knows, leader_word, lagger_word, fire_word, leader_code, IsCoded, Kept, Ruled}
-use Rattle.gang_board.specs.Plays.{Stood, leader_view, lagger_view, told, number_at, raised_leader, halted_leader, reported_leader, saw_fire, saw_leader, raised_lagger, raises, halts, reports, sees_fire, sees_leader, lag_raises}
+use Rattle.gang_board.specs.Rule.{Apart, HasLeader, HasLagger, Knows, leader_word, lagger_word, fire_word, leader_code, IsCoded, Kept, Ruled}
+use Rattle.gang_board.specs.Plays.{Stood, leader_view, lagger_view, told, number_at, raised_leader, halted_leader, reported_leader, saw_fire, saw_leader, raised_lagger, raises, halts, reports, sees_fire, FindsLeader, sees_leader, lag_raises}
+use Rattle.gang_board.specs.Sights.{Grows}
 use Rattle.gang_board.specs.declared.view.View.{View}
-use Rattle.gang_board.proofs.Lists.{each_changed, each_map}
+use Rattle.gang_board.proofs.Lists.{each_changed, each_map, same_numbers}
 use Rattle.gang_board.proofs.Words.{code_leader, code_lagger, code_fire, code_read, told_is}
 use Rattle.gang_board.proofs.PostsSteps.{fire_seen, leader_seen, fire_seen_holds, leader_seen_holds}
 use Rattle.gang_board.proofs.Keeps.{stepped_kept, stood, lifted}
@@ -50,6 +51,8 @@ module _ (n : Named) (slots id : ℕ) (st : Step ℕ) where
             tt,
           );
           laggers = tt;
+          leaders_apart = (tt, tt);
+          laggers_apart = tt;
         } in (
           stood h.home_leader h.home_lagger n d id (y ∷ []) [] holds knows,
           stepped_kept n s h id (leader_view n k) at words d (leader_view n y) holds coded
@@ -135,6 +138,8 @@ module _ (n : Named) (slots id : ℕ) (st : Step ℕ) where
         let knows : Knows h.home_leader h.home_lagger n d id (lagger_view n y) = record {
           leaders = tt;
           laggers = ((mine.0, mine.1, sym (put_same q y.post c.lagger), refl), tt);
+          leaders_apart = tt;
+          laggers_apart = (tt, tt);
         } in
         let holds : PostsHold (course n) d = subst (λ (x : Lagger). PostsHold (course n) record { leader = c.leader; lagger = put q x c.lagger; fire = c.fire })
         (λ i. record (sym mine.2 i) { at = (sym mine.2 i).at + 1 })
@@ -177,6 +182,8 @@ module _ (n : Named) (slots id : ℕ) (st : Step ℕ) where
               ))
               (k ∷ ks) mine.leaders;
           laggers = mine.laggers;
+          leaders_apart = subst Apart (sym (same_numbers (λ (x : HeldLeader). x.number) (saw_fire f) (λ _. refl) (k ∷ ks))) mine.leaders_apart;
+          laggers_apart = mine.laggers_apart;
         } in
         let holds : PostsHold (course n) d = fire_seen_holds (course n) c test h.holds in (
           w,
@@ -188,7 +195,16 @@ module _ (n : Named) (slots id : ℕ) (st : Step ℕ) where
               (λ q l. refl))
               (λ p ne. choose (λ (z : Leader). z ≡ c.leader p) (h.home_leader p) id (record (c.leader p) { seen = c.fire }) (c.leader p) (λ e. absurd (ne e)) (λ _. refl))
               (λ q ne. refl) knows,
-          (refl, (stood h.home_leader h.home_lagger n d id (map (saw_fire f) (k ∷ ks)) ls holds knows, sym fire)),
+          (
+            refl,
+            (
+              stood h.home_leader h.home_lagger n d id (map (saw_fire f) (k ∷ ks)) ls holds knows,
+              sym fire,
+              each_map (HasLeader h.home_leader n c id n) (λ (x : HeldLeader). f ≤ x.post.seen)
+                  (λ (x : HeldLeader) (o : HasLeader h.home_leader n c id n x). let later = (h.holds.leader x.number o.0).later in
+                  let seen = ap (λ (z : Leader). z.seen) o.2 in omega (arith, fire, later, seen)) (k ∷ ks) mine.leaders,
+            ),
+          ),
         ))
 
   module _ (ks : List HeldLeader) (l : HeldLagger) (ls : List HeldLagger) where
@@ -200,9 +216,7 @@ module _ (n : Named) (slots id : ℕ) (st : Step ℕ) where
     see_leader_keeps p pl number = lifted n slots id (with_laggers_here, []) (leader_word p) (λ w. w) (sees_leader st (with_laggers_here, []))
         (lagger_names n ks l ls id)
         (subst (λ (x : ℕ). Allows (Kept n) slots id (with_laggers_here, []) (leader_word p) (λ w. w)
-        (λ found now. ((now ≡ (record { named = n; leaders = ks; laggers = map (saw_leader x (told found)) (l ∷ ls) }, []))
-        × Stood record { named = n; leaders = ks; laggers = map (saw_leader x (told found)) (l ∷ ls) })
-        × Each (λ (y : HeldLeader). y.number ≡ x → told found ≡ present y.post) ks)) (sym number)
+        (λ found now. FindsLeader x found (with_laggers_here, []) now)) (sym number)
         (λ s h _ at room.
         let c : Posts = h.posts in
         let mine = h.knows id with_laggers_here at in
@@ -222,6 +236,8 @@ module _ (n : Named) (slots id : ℕ) (st : Step ℕ) where
                 o.3,
               ))
               (l ∷ ls) mine.laggers;
+          leaders_apart = mine.leaders_apart;
+          laggers_apart = subst Apart (sym (same_numbers (λ (x : HeldLagger). x.number) (saw_leader p (told f)) (λ _. refl) (l ∷ ls))) mine.laggers_apart;
         } in
         let holds : PostsHold (course n) d = leader_seen_holds (course n) c test h.holds p pl in (
           w,
@@ -234,8 +250,16 @@ module _ (n : Named) (slots id : ℕ) (st : Step ℕ) where
               (λ q ne. choose (λ (z : Lagger). z ≡ c.lagger q) (h.home_lagger q) id (with_sight p (present (c.leader p)) (c.lagger q)) (c.lagger q) (λ e. absurd (ne e)) (λ _. refl))
               knows,
           (
-            (refl, stood h.home_leader h.home_lagger n d id ks (map (saw_leader p (told f)) (l ∷ ls)) holds knows),
-            each_map (HasLeader h.home_leader n c id n) (λ (y : HeldLeader). y.number ≡ p → told f ≡ present y.post)
-                (λ (y : HeldLeader) (o : HasLeader h.home_leader n c id n y) (e : y.number ≡ p). saw ∙ ap present (ap c.leader (sym e) ∙ sym o.2)) ks mine.leaders,
+            refl,
+            (
+              stood h.home_leader h.home_lagger n d id ks (map (saw_leader p (told f)) (l ∷ ls)) holds knows,
+              saw,
+              each_map (HasLagger h.home_lagger n c id n) (λ (x : HeldLagger). Grows (sight x.post p) (told f))
+                  (λ (x : HeldLagger) (o : HasLagger h.home_lagger n c id n x). let m = h.holds.sight x.number p o.0 pl in
+                  subst (λ (z : Sight × Lagger). Grows (sight z.1 p) z.0) (λ i. (sym saw i, sym o.2 i))
+                  record { further = m.no_further; last = λ e. sym (m.last e) }) (l ∷ ls) mine.laggers,
+              each_map (HasLeader h.home_leader n c id n) (λ (y : HeldLeader). y.number ≡ p → told f ≡ present y.post)
+                  (λ (y : HeldLeader) (o : HasLeader h.home_leader n c id n y) (e : y.number ≡ p). saw ∙ ap present (ap c.leader (sym e) ∙ sym o.2)) ks mine.leaders,
+            ),
           ),
         )))

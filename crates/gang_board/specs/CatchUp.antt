@@ -1,12 +1,15 @@
 -- All posts brought up to date at one moment. This project's own.
-use Rattle.std.specs.Prelude.{◌≡◌, ℕ, ◌+◌, ◌<◌, ◌≤◌, List, [], map, length, replicate, slice_index_or}
+use Rattle.std.specs.Prelude.{◌≡◌, ℕ, ◌+◌, ◌<◌, ◌≤◌, Option, List, [], map, length, replicate}
+use Rattle.std.specs.Prelude.{slice_index_or}
 use Rattle.std.specs.List.{range_with_len}
 use Rattle.atomic_table.specs.declared.shared.Seat.{Seat}
 use Rattle.token_net.specs.Posts.{Sight, Posts, PostsHold, present}
 use Rattle.gang_board.specs.Views.{Named, HeldLeader, HeldLagger, course, rested_leader, rested_lagger}
 use Rattle.gang_board.specs.Rule.{Each}
 use Rattle.gang_board.specs.Seats.{IsBoardOf}
-use Rattle.gang_board.specs.Told.{leader, leader_named, IsLeaderOf, LeaderBecomes, lagger, lagger_named, IsLaggerOf, LaggerBecomes}
+use Rattle.gang_board.specs.Sights.{cycle_of}
+use Rattle.gang_board.specs.Told.{leader, leader_named, IsLeaderOf, LeaderBecomes}
+use Rattle.gang_board.specs.Told.{lagger, lagger_named, IsLaggerOf, LaggerBecomes}
 use Rattle.gang_board.specs.declared.view.View.{View}
 use Rattle.gang_board.specs.declared.board.Board.{Board}
 use Rattle.gang_board.specs.declared.posts.LeaderPost.{LeaderPost}
@@ -55,16 +58,23 @@ LeaderCaughtUp c old new = LeaderBecomes old new (record (leader old) { seen = c
     × (leader new ≡ c.leader old.number)
 
 abbrev pub LaggerCaughtUp : Named → Posts → LagPost → LagPost → Type 0
-LaggerCaughtUp n c old new = LaggerBecomes old new (record (lagger old) { sights = all_present n c }) (replicate n.parts 0)
+LaggerCaughtUp n c old new =
+    LaggerBecomes old new (record (lagger old) { sights = all_present n c }) (replicate n.parts 0)
     × (lagger new ≡ c.lagger old.number)
 
 -- at one moment the posts are these, all holds of them, the fire word is c's, and each has seen what there is to see
-pub record CaughtUp (n : Named) (word : ℕ) (old new : List LeaderPost) (old_laggers new_laggers : List LagPost) : Type 0 where
+pub record CaughtUp (n : Named) (word : ℕ) (old new : List LeaderPost) (first second : List LagPost) : Type 0 where
   pub posts : Posts
   pub holds : PostsHold (course n) posts
   pub fire : posts.fire ≡ word
-  pub leaders : (k : ℕ) (d : LeaderPost) → k < length old → LeaderCaughtUp posts (slice_index_or old k d) (slice_index_or new k d)
-  pub laggers : (k : ℕ) (d : LagPost) → k < length old_laggers → LaggerCaughtUp n posts (slice_index_or old_laggers k d) (slice_index_or new_laggers k d)
+  pub leaders : (k : ℕ) (d : LeaderPost) → k < length old
+      → LeaderCaughtUp posts (slice_index_or old k d) (slice_index_or new k d)
+  pub laggers : (k : ℕ) (d : LagPost) → k < length first
+      → LaggerCaughtUp n posts (slice_index_or first k d) (slice_index_or second k d)
+
+-- the answer tells the fire word of that moment
+abbrev pub CatchesUp : Named → Option ℕ → List LeaderPost → List LeaderPost → List LagPost → List LagPost → Type 0
+CatchesUp n told old new first second = (word : ℕ) × (told ≡ cycle_of word) × CaughtUp n word old new first second
 
 -- ---- the seat that has them for a while
 
@@ -117,12 +127,14 @@ pub record LeadersLooked (word : ℕ) (old new : Seat ℕ View) (before now : Li
       → LeaderCaughtUp looked.posts (slice_index_or before k d) (slice_index_or now k d)
 
 -- and one more
-abbrev pub LeaderLooked : ℕ → Seat ℕ View → Seat ℕ View → List LeaderPost → List LeaderPost → LeaderPost → LeaderPost → Type 0
+abbrev pub LeaderLooked : ℕ → Seat ℕ View → Seat ℕ View → List LeaderPost → List LeaderPost → LeaderPost → LeaderPost
+    → Type 0
 LeaderLooked word old new before now post post_now = (l : LeadersLooked word old new before now)
     × LeaderCaughtUp l.looked.posts post post_now
 
 -- so have all leaders' posts and these laggers'
-pub record AllLooked (word : ℕ) (old new : Seat ℕ View) (before now : List LeaderPost) (first second : List LagPost) : Type 0 where
+pub record AllLooked (word : ℕ) (old new : Seat ℕ View) (before now : List LeaderPost) (first second : List LagPost)
+    : Type 0 where
   pub looked : Looked word old new
   pub size : length now ≡ length before
   pub leaders : (k : ℕ) (d : LeaderPost) → k < length before
@@ -132,7 +144,8 @@ pub record AllLooked (word : ℕ) (old new : Seat ℕ View) (before now : List L
       → LaggerCaughtUp old.me.0.named looked.posts (slice_index_or first k d) (slice_index_or second k d)
 
 -- and one more
-abbrev pub LaggerLooked : ℕ → Seat ℕ View → Seat ℕ View → List LeaderPost → List LeaderPost → List LagPost → List LagPost → LagPost → LagPost → Type 0
+abbrev pub LaggerLooked : ℕ → Seat ℕ View → Seat ℕ View → List LeaderPost → List LeaderPost → List LagPost
+    → List LagPost → LagPost → LagPost → Type 0
 LaggerLooked word old new before now first second post post_now = (l : AllLooked word old new before now first second)
     × LaggerCaughtUp old.me.0.named l.looked.posts post post_now
 

@@ -1,10 +1,13 @@
 -- What the steps on the board tell the seats that make them. This project's own.
-use Rattle.std.specs.Prelude.{◌≡◌, ℕ, ◌+◌, ◌/◌, ◌%◌, ◌==◌, ◌<◌, min, true, List, [], ◌∷◌, ◌++◌, map, slice_index, slice_set}
+use Rattle.std.specs.Prelude.{◌≡◌, ℕ, ◌+◌, ◌/◌, ◌%◌, ◌==◌, ◌<◌, ◌≤◌, min, true}
+use Rattle.std.specs.Prelude.{List, [], ◌∷◌, ◌++◌, map, slice_index, slice_set}
 use Rattle.atomic_table.specs.Table.{Me, Step}
 use Rattle.named_run.specs.Named.{RunData, no_run}
-use Rattle.token_net.specs.Posts.{Sight, Posts, PostsHold, present, with_sight}
-use Rattle.gang_board.specs.Views.{Named, HeldLeader, HeldLagger, course, rested_leader, rested_lagger, leaders_from, laggers_from}
+use Rattle.token_net.specs.Posts.{Sight, Posts, PostsHold, present, sight, with_sight}
+use Rattle.gang_board.specs.Views.{Named, HeldLeader, HeldLagger, course, rested_leader, rested_lagger}
+use Rattle.gang_board.specs.Views.{leaders_from, laggers_from}
 use Rattle.gang_board.specs.Rule.{Each}
+use Rattle.gang_board.specs.Sights.{Grows}
 use Rattle.gang_board.specs.declared.view.View.{View}
 use Rattle.gang_board.specs.declared.setup.Setup.{Setup}
 
@@ -49,6 +52,10 @@ pub record Stood (v : View) : Type 0 where
 abbrev pub one_more : ℕ → ℕ
 one_more k = min (k + 1) 18446744073709551615
 
+-- a lagger's counts, after one look more at the leader p's word
+abbrev pub looked_at : ℕ → List ℕ → List ℕ
+looked_at p counts = slice_set counts p (one_more (slice_index counts p))
+
 -- what a leader's word says of it
 abbrev pub told : ℕ → Sight
 told w = record { at = w / 2; halted = w % 2 == 1 }
@@ -72,7 +79,7 @@ saw_fire f k = record k { post = record k.post { seen = f }; looks = one_more k.
 abbrev pub saw_leader : ℕ → Sight → HeldLagger → HeldLagger
 saw_leader p s k = record k {
   post = with_sight p s k.post;
-  looks = slice_set k.looks p (one_more (slice_index k.looks p));
+  looks = looked_at p k.looks;
 }
 
 abbrev pub raised_lagger : HeldLagger → HeldLagger
@@ -91,15 +98,22 @@ halts s me found now = Becomes (with_leaders halted_leader me.0) me now
 abbrev pub reports : Step ℕ → Me ℕ View → ℕ → Me ℕ View → Type 0
 reports s me found now = Becomes (with_leaders reported_leader me.0) me now
 
--- the fire word was what was found
+-- the fire word of those posts was what was found, and no post had seen a lesser one
 abbrev pub sees_fire : Step ℕ → Me ℕ View → ℕ → Me ℕ View → Type 0
 sees_fire s me found now = (now ≡ (with_leaders (saw_fire found) me.0, me.1))
-    × ((t : Stood (with_leaders (saw_fire found) me.0)) × (t.posts.fire ≡ found))
+    × ((t : Stood (with_leaders (saw_fire found) me.0)) × (t.posts.fire ≡ found)
+    × Each (λ (k : HeldLeader). found ≤ k.post.seen) me.0.leaders)
 
--- where the seat has the leader's post too, what was found is that post's
+-- what was found is what there was to see of the leader p among those posts, no post had seen more of it, and where the
+-- seat has the leader's post too, it is that post's
+abbrev pub FindsLeader : ℕ → ℕ → Me ℕ View → Me ℕ View → Type 0
+FindsLeader p found me now = (now ≡ (with_laggers (saw_leader p (told found)) me.0, me.1))
+    × ((t : Stood (with_laggers (saw_leader p (told found)) me.0)) × (told found ≡ present (t.posts.leader p))
+    × Each (λ (k : HeldLagger). Grows (sight k.post p) (told found)) me.0.laggers
+    × Each (λ (k : HeldLeader). k.number ≡ p → told found ≡ present k.post) me.0.leaders)
+
 abbrev pub sees_leader : Step ℕ → Me ℕ View → ℕ → Me ℕ View → Type 0
-sees_leader s me found now = Becomes (with_laggers (saw_leader (number_at s.word) (told found)) me.0) me now
-    × Each (λ (k : HeldLeader). k.number ≡ number_at s.word → told found ≡ present k.post) me.0.leaders
+sees_leader s me found now = FindsLeader (number_at s.word) found me now
 
 abbrev pub lag_raises : Step ℕ → Me ℕ View → ℕ → Me ℕ View → Type 0
 lag_raises s me found now = Becomes (with_laggers raised_lagger me.0) me now

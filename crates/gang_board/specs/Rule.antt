@@ -1,6 +1,6 @@
 -- The rule of the board: its words are those of posts for which all holds, and what each seat knows of its posts is so.
 -- This project's own.
-use Rattle.std.specs.Prelude.{◌≡◌, ℕ, ◌+◌, ◌*◌, ◌<◌, List, [], ◌∷◌, length, slice_index}
+use Rattle.std.specs.Prelude.{◌≡◌, ◌≢◌, ℕ, ◌+◌, ◌*◌, ◌<◌, List, [], ◌∷◌, map, length, slice_index}
 use mathlib.Core.Option.{some}
 use lib.ListN.{get_elem?}
 use Rattle.atomic_table.specs.Table.{State}
@@ -53,10 +53,24 @@ abbrev pub HasLagger : (ℕ → ℕ) → Named → Posts → ℕ → Named → H
 HasLagger home n c j named k = (k.number < n.parts) × (home k.number ≡ j) × (k.post ≡ c.lagger k.number)
     × (named ≡ n)
 
--- what the seat j knows is so
+-- the numbers of the posts that a seat has
+abbrev pub leader_numbers : List HeldLeader → List ℕ
+leader_numbers ks = map (λ k. k.number) ks
+
+abbrev pub lagger_numbers : List HeldLagger → List ℕ
+lagger_numbers ks = map (λ k. k.number) ks
+
+-- no number stands twice in the list
+abbrev pub Apart : List ℕ → Type 0
+Apart [] = Unit {0}
+Apart (p ∷ ps) = Each (λ q. q ≢ p) ps × Apart ps
+
+-- what the seat j knows is so, and no post stands in it twice
 pub record Knows (home_leader home_lagger : ℕ → ℕ) (n : Named) (c : Posts) (j : ℕ) (v : View) : Type 0 where
   pub leaders : Each (HasLeader home_leader n c j v.named) v.leaders
   pub laggers : Each (HasLagger home_lagger n c j v.named) v.laggers
+  pub leaders_apart : Apart (leader_numbers v.leaders)
+  pub laggers_apart : Apart (lagger_numbers v.laggers)
 
 -- the board at a moment, under a run: there are posts, and for each post the seat that has it, so that what holds of
 -- posts holds of these, the words are theirs, and what each seat knows is so

@@ -50,6 +50,7 @@ pub record IsLaggerSeat (words q : ℕ) (y : Lagger) (me : Me ℕ View) : Type 0
   pub laggers : me.0.laggers ≡ record { number = q; post = y; looks = lagger_looks_of me.0.laggers } ∷ []
   pub there : q < me.0.named.parts
   pub sized : length y.sights ≡ me.0.named.parts
+  pub looked : length (lagger_looks_of me.0.laggers) ≡ me.0.named.parts
   pub within : (p : ℕ) → p < me.0.named.parts → (sight y p).at ≤ end_of me.0.named.run
   pub stood : ∥ StoodLagger me.0.named q y ∥₁
   pub board : IsBoardOf words me.0.named

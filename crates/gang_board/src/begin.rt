@@ -1,11 +1,9 @@
 //! How a board begins.
 
-ghost use Rattle.std.specs.Prelude.{◌≡◌, ◌≤◌, ◌<◌, [], map, replicate, false, length, IfOk, OnOk};
-ghost use Rattle.std.specs.List.{range_with_len};
-ghost use Rattle.gang_board.specs.Views.{leaders_from, laggers_from};
-ghost use Rattle.gang_board.specs.Rule.{word_count};
-ghost use Rattle.gang_board.specs.Begins.{first_word, named_in, first_view, without_leaders, Begins, AreNewLeaders, AreNewLaggers};
-ghost use Rattle.gang_board.specs.Plays.{nobody};
+ghost use Rattle.std.specs.Prelude.{◌≡◌, ◌≤◌, [], IfOk, OnOk};
+ghost use Rattle.gang_board.specs.Begins.{first_word, first_words_of, first_sights_of, named_by, first_view};
+ghost use Rattle.gang_board.specs.Begins.{without_leaders, Begins, BeginsAt, IsFirstSeat, AreNewLeaders, AreNewLaggers};
+ghost use Rattle.gang_board.specs.Begins.{LeadersParted, AreAllLaggers};
 
 use crate::board::{Board, FIRE_WORD};
 use crate::plays::{FirstLagger, FirstLeader, Names};
@@ -30,8 +28,10 @@ impl Board {
     ) -> Result<(Board, Vec<LeaderPost>, Vec<LagPost>), NoMemory>
         requires count { (1 ≤ leaders) × (leaders ≤ MAX_LEADERS) }
         requires begins { Begins N.run leaders lag leader_at lagger_at }
-        ensures leaders { IfOk result (λ r. AreNewLeaders r.0 (record { run = N.run; parts = leaders; lag = lag }) leader_at leaders r.1.items) }
-        ensures laggers { IfOk result (λ r. AreNewLaggers r.0 (record { run = N.run; parts = leaders; lag = lag }) leader_at lagger_at leaders r.2.items) }
+        ensures leaders { let n = named_by N.run leaders lag in
+            IfOk result (λ r. AreNewLeaders r.0 n leader_at leaders r.1.items) }
+        ensures laggers { let n = named_by N.run leaders lag in
+            IfOk result (λ r. AreNewLaggers r.0 n leader_at lagger_at leaders r.2.items) }
     {
         let setup = Setup {
             leaders,
@@ -55,11 +55,11 @@ impl Board {
         setup: &Setup,
         seat: &mut Seat<u8, View>,
     ) -> Result<Vec<LeaderPost>, NoMemory>
-        requires board { (seat.old.table_id ≡ self.now.table.shared.table_id) × (seat.old.table_id.words ≡ word_count setup.now.leaders) }
-        requires begins { (1 ≤ setup.now.leaders) × Begins N.run setup.now.leaders setup.now.lag setup.now.leader_at setup.now.lagger_at }
+        requires board { IsFirstSeat self.now setup.now seat.old }
+        requires begins { BeginsAt N.run setup.now }
         requires view { seat.old.me ≡ (first_view N.run setup.now, []) }
         ensures board { OnOk result (seat.new.table_id ≡ seat.old.table_id) }
-        ensures posts { IfOk result (λ posts. AreNewLeaders self.now (named_in N.run setup.now) setup.now.leader_at setup.now.leaders posts.items × (seat.new.me ≡ (without_leaders N.run setup.now, []))) }
+        ensures posts { IfOk result (λ posts. LeadersParted self.now N.run setup.now posts.items seat.new.me) }
     {
         let mut posts = Vec::with_capacity(alloc, setup.leaders as usize)?;
         for number in 0..setup.leaders {
@@ -86,11 +86,11 @@ impl Board {
         setup: &Setup,
         seat: &mut Seat<u8, View>,
     ) -> Result<Vec<LagPost>, NoMemory>
-        requires board { (seat.old.table_id ≡ self.now.table.shared.table_id) × (seat.old.table_id.words ≡ word_count setup.now.leaders) }
-        requires begins { (1 ≤ setup.now.leaders) × Begins N.run setup.now.leaders setup.now.lag setup.now.leader_at setup.now.lagger_at }
+        requires board { IsFirstSeat self.now setup.now seat.old }
+        requires begins { BeginsAt N.run setup.now }
         requires view { seat.old.me ≡ (without_leaders N.run setup.now, []) }
         ensures board { OnOk result (seat.new.table_id ≡ seat.old.table_id) }
-        ensures posts { IfOk result (λ posts. AreNewLaggers self.now (named_in N.run setup.now) setup.now.leader_at setup.now.lagger_at setup.now.leaders posts.items) }
+        ensures posts { IfOk result (λ posts. AreAllLaggers self.now N.run setup.now posts.items) }
     {
         let mut posts = Vec::with_capacity(alloc, setup.leaders as usize)?;
         for number in 0..setup.leaders {
@@ -113,7 +113,7 @@ impl Board {
 // The words before any step.
 fn first_words(alloc: Global, setup: &Setup) -> Result<Vec<u64>, NoMemory>
     requires { (setup.now.leaders ≤ MAX_LEADERS) × (setup.now.leader_at ≤ 4294967295) }
-    ensures { IfOk result (λ words. words.items ≡ map (first_word setup.now) (range_with_len 0 (word_count setup.now.leaders))) }
+    ensures { IfOk result (λ words. words.items ≡ first_words_of setup.now) }
 {
     let count = 16 * setup.leaders as usize + 8;
     let mut words = Vec::with_capacity(alloc, count)?;
@@ -141,7 +141,7 @@ fn word_at(setup: &Setup, place: usize) -> u64
 
 // What a lagger has seen before any look: each leader at its first position.
 fn first_sights(alloc: Global, setup: &Setup) -> Result<Vec<Seen>, NoMemory>
-    ensures { IfOk result (λ sights. sights.items ≡ replicate setup.now.leaders (record { position = setup.now.leader_at; halted = false })) }
+    ensures { IfOk result (λ sights. sights.items ≡ first_sights_of setup.now) }
 {
     let seen = Seen {
         position: setup.leader_at,

@@ -1,12 +1,14 @@
 //! The board: its words, and the six calls on one post.
 
-ghost use Rattle.std.specs.Prelude.{◌≡◌, ◌+◌, ◌*◌, ◌<◌, ◌≤◌, true, slice_index, slice_set};
-ghost use Rattle.token_net.specs.Posts.{MayRaise, MayHalt, MayReport, HasSeenFar, with_sight};
+ghost use Rattle.std.specs.Prelude.{◌≡◌, ◌<◌, ◌≤◌};
+ghost use Rattle.token_net.specs.Posts.{MayRaise, MayHalt, HasSeenFar, sight};
 ghost use Rattle.gang_board.specs.Views.{course};
 ghost use Rattle.gang_board.specs.Rule.{leader_word, lagger_word};
-ghost use Rattle.gang_board.specs.Plays.{one_more};
-ghost use Rattle.gang_board.specs.Sights.{sight_of, cycle_of};
-ghost use Rattle.gang_board.specs.Told.{leader, leader_named, leader_looks, IsLeaderOf, LeaderBecomes, lagger, lagger_named, lagger_looks, IsLaggerOf, LaggerBecomes};
+ghost use Rattle.gang_board.specs.Sights.{sight_of, cycle_of, Grows};
+ghost use Rattle.gang_board.specs.Told.{leader, leader_named, IsLeaderOf, LeaderRaised, LeaderHalted};
+ghost use Rattle.gang_board.specs.Told.{MayReportFire, LeaderReported};
+ghost use Rattle.gang_board.specs.Told.{LeaderLooks, FoundFire, lagger, lagger_named, IsLaggerOf, LaggerRaised};
+ghost use Rattle.gang_board.specs.Told.{LaggerLooks, FoundLeader};
 
 use crate::plays::{Halts, LagRaises, Raises, Reports, Rule, SeesFire, SeesLeader};
 use crate::posts::{LagPost, LeaderPost, fire_cycle};
@@ -31,7 +33,7 @@ impl Board {
     pub fn raise(&self, post: &mut LeaderPost)
         requires board { IsLeaderOf self.now post.old }
         requires may { MayRaise (course (leader_named post.old)) post.old.number (leader post.old) }
-        ensures { LeaderBecomes post.old post.new (record (leader post.old) { at = post.old.position + 1 }) (leader_looks post.old) }
+        ensures { LeaderRaised post.old post.new }
     {
         self.table
             .shared
@@ -43,7 +45,7 @@ impl Board {
     pub fn halt(&self, post: &mut LeaderPost)
         requires board { IsLeaderOf self.now post.old }
         requires may { MayHalt (course (leader_named post.old)).rows (leader post.old) }
-        ensures { LeaderBecomes post.old post.new (record (leader post.old) { halted = true }) (leader_looks post.old) }
+        ensures { LeaderHalted post.old post.new }
     {
         self.table
             .shared
@@ -54,9 +56,9 @@ impl Board {
     /// The leader reports that an assertion of its own fires at its position, which is `cycle`.
     pub fn report_fire(&self, post: &mut LeaderPost, cycle: u64)
         requires board { IsLeaderOf self.now post.old }
-        requires may { MayReport (course (leader_named post.old)) post.old.number (leader post.old) }
+        requires may { MayReportFire post.old }
         requires cycle { cycle ≡ post.old.position }
-        ensures { LeaderBecomes post.old post.new (record (leader post.old) { reported = true }) (leader_looks post.old) }
+        ensures { LeaderReported post.old post.new }
     {
         self.table
             .shared
@@ -67,8 +69,10 @@ impl Board {
     /// The cycle that the fire word tells, as this load finds it.
     pub fn see_fire(&self, post: &mut LeaderPost) -> Option<u64>
         requires { IsLeaderOf self.now post.old }
-        ensures post { LeaderBecomes post.old post.new (record (leader post.old) { seen = post.new.seen }) (one_more (leader_looks post.old)) }
+        ensures post { LeaderLooks post.old post.new }
         ensures value { result ≡ cycle_of post.new.seen }
+        ensures found { FoundFire post.new post.new.seen }
+        ensures falls { post.new.seen ≤ post.old.seen }
     {
         let found = self
             .table
@@ -82,7 +86,9 @@ impl Board {
     pub fn see_leader(&self, post: &mut LagPost, leader: u32) -> Seen
         requires board { IsLaggerOf self.now post.old }
         requires there { leader < (lagger_named post.old).parts }
-        ensures { LaggerBecomes post.old post.new (with_sight leader (sight_of result) (lagger post.old)) (slice_set (lagger_looks post.old) leader (one_more (slice_index (lagger_looks post.old) leader))) }
+        ensures post { LaggerLooks post.old post.new leader (sight_of result) }
+        ensures found { FoundLeader post.new leader (sight_of result) }
+        ensures grows { Grows (sight (lagger post.old) leader) (sight_of result) }
     {
         let found = self
             .table
@@ -100,7 +106,7 @@ impl Board {
     pub fn lag_raise(&self, post: &mut LagPost)
         requires board { IsLaggerOf self.now post.old }
         requires far { HasSeenFar (lagger_named post.old).parts (lagger_named post.old).lag (lagger post.old) }
-        ensures { LaggerBecomes post.old post.new (record (lagger post.old) { at = post.old.position + 1 }) (lagger_looks post.old) }
+        ensures { LaggerRaised post.old post.new }
     {
         self.table
             .shared

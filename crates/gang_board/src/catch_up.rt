@@ -3,12 +3,13 @@
 //! Their seats are joined, one after another, so that one seat has all posts. It looks at each leader's word and at the
 //! fire word, and then each post gets a seat of its own again.
 
-ghost use Rattle.std.specs.Prelude.{◌≡◌, ◌+◌, ◌≤◌, ℕ, map, length, []};
+ghost use Rattle.std.specs.Prelude.{◌≡◌, ◌+◌, ◌≤◌, map, length, []};
 ghost use Rattle.gang_board.specs.Views.{Named};
-ghost use Rattle.gang_board.specs.Sights.{cycle_of};
 ghost use Rattle.gang_board.specs.Plays.{nobody};
 ghost use Rattle.gang_board.specs.Told.{leader_named, IsLeaderOf};
-ghost use Rattle.gang_board.specs.CatchUp.{AreAllPosts, AreLeaders, AreLaggers, IsLeaderAt, IsLaggerAt, IsCarrier, Looked, LeadersLooked, LeaderLooked, AllLooked, LaggerLooked, CaughtUp, seen_of};
+ghost use Rattle.gang_board.specs.CatchUp.{AreAllPosts, AreLeaders, AreLaggers, IsLeaderAt, IsLaggerAt, IsCarrier};
+ghost use Rattle.gang_board.specs.CatchUp.{Looked, LeadersLooked, LeaderLooked, AllLooked, LaggerLooked, CatchesUp};
+ghost use Rattle.gang_board.specs.CatchUp.{seen_of};
 
 use crate::board::{Board, FIRE_WORD, leader_place};
 use crate::plays::{FirstLagger, FirstLeader, SeesFire, SeesLeader, Spare, Together};
@@ -124,7 +125,8 @@ impl Board {
         requires rest { AreLaggers self.now carrier.old.me.0.named rest.old }
         requires count { (count ≡ carrier.old.me.0.named.parts) × (1 ≤ count) }
         requires all { length leaders.old ≡ carrier.old.me.0.named.parts }
-        ensures { LaggerLooked result carrier.old carrier.new leaders.old leaders.new rest.old rest.new post.old post.new }
+        ensures { LaggerLooked result carrier.old carrier.new leaders.old leaders.new
+            rest.old rest.new post.old post.new }
     {
         let spare = self.table.shared.split_seat::<Spare>(carrier);
         let theirs = mem::replace(&mut post.seat, spare);
@@ -140,7 +142,8 @@ impl Board {
     /// fire word tells then. The slices have all posts of the board, in order of number. Looks are counted anew.
     pub fn catch_up(&self, leaders: &mut [LeaderPost], laggers: &mut [LagPost]) -> Option<u64>
         requires { (n : Named) × AreAllPosts self.now n leaders.old laggers.old }
-        ensures { (n : Named) → AreAllPosts self.now n leaders.old laggers.old → (word : ℕ) × (result ≡ cycle_of word) × CaughtUp n word leaders.old leaders.new laggers.old laggers.new }
+        ensures { (n : Named) → AreAllPosts self.now n leaders.old laggers.old
+            → CatchesUp n result leaders.old leaders.new laggers.old laggers.new }
     {
         let mut carrier = self.spare_seat(&mut leaders[0]);
         let count = leaders.len() as u32;

@@ -20,4 +20,5 @@ pub mod plays;
 pub mod posts;
 pub mod seen;
 pub mod setup;
+mod tell;
 pub mod view;

@@ -1,7 +1,8 @@
 //! The rule of the board's table, and the names of its steps.
 
 ghost use Rattle.gang_board.specs.Rule.{Ruled};
-ghost use Rattle.gang_board.specs.Plays.{everybody, raises, halts, reports, sees_fire, sees_leader, lag_raises, names, both, nobody, without_leader, leader_alone, without_lagger, lagger_alone};
+ghost use Rattle.gang_board.specs.Plays.{everybody, raises, halts, reports, sees_fire, sees_leader, lag_raises, names};
+ghost use Rattle.gang_board.specs.Plays.{both, nobody, without_leader, leader_alone, without_lagger, lagger_alone};
 ghost use Rattle.gang_board.specs.Views.{no_name};
 
 use crate::setup::Setup;

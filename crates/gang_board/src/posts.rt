@@ -1,6 +1,6 @@
 //! The posts of leaders and laggers.
 
-ghost use Rattle.std.specs.Prelude.{◌≡◌, ◌<◌, length, map, slice_index_or};
+ghost use Rattle.std.specs.Prelude.{◌≡◌, length, map};
 ghost use Rattle.token_net.specs.Posts.{none_yet};
 ghost use Rattle.gang_board.specs.Seats.{IsLeaderSeat, IsLaggerSeat};
 ghost use Rattle.gang_board.specs.Sights.{sight_of, cycle_of};
@@ -32,43 +32,6 @@ pub struct LeaderPost {
     }) seat.me },
 }
 
-impl LeaderPost {
-    /// The leader's number.
-    pub fn number(&self) -> u32
-        ensures { result ≡ self.now.number }
-    {
-        self.number
-    }
-
-    /// The cycle that it is in.
-    pub fn position(&self) -> u64
-        ensures { result ≡ self.now.position }
-    {
-        self.position
-    }
-
-    /// Whether it is halted.
-    pub fn is_halted(&self) -> bool
-        ensures { result ≡ self.now.halted }
-    {
-        self.halted
-    }
-
-    /// Whether it has reported that an assertion of its own fires at its position.
-    pub fn has_reported(&self) -> bool
-        ensures { result ≡ self.now.reported }
-    {
-        self.reported
-    }
-
-    /// The cycle of the fire word as it was last seen; none where no leader had reported.
-    pub fn seen_fire(&self) -> Option<u64>
-        ensures { result ≡ cycle_of self.now.seen }
-    {
-        fire_cycle(self.seen)
-    }
-}
-
 /// What a lagger lets others know, its position; and what it has seen of each leader.
 ///
 /// `specs/Told` has it as a value (`lagger`), with the run and the lag that it names and the counts of its looks.
@@ -83,30 +46,6 @@ pub struct LagPost {
       sights = map sight_of sights.items;
     }) seat.me },
     ghost sized: { length sights.items ≡ seat.me.0.named.parts },
-}
-
-impl LagPost {
-    /// The lagger's number.
-    pub fn number(&self) -> u32
-        ensures { result ≡ self.now.number }
-    {
-        self.number
-    }
-
-    /// The cycle that it is in.
-    pub fn position(&self) -> u64
-        ensures { result ≡ self.now.position }
-    {
-        self.position
-    }
-
-    /// What was last seen of a leader.
-    pub fn seen(&self, leader: u32) -> Seen
-        requires { leader < length self.now.sights.items }
-        ensures { result ≡ slice_index_or self.now.sights.items leader result }
-    {
-        self.sights[leader as usize]
-    }
 }
 
 // The cycle that the fire word tells.

@@ -69,10 +69,11 @@ pub record HasShape (r : RunData) (ch : ℕ) (token : Token) : Type 0 where
 abbrev pub has : List ℕ → ℕ → Bool
 has ns n = list_any (λ m. m == n) ns
 
--- an assertion that the leader p owns fires in the cycle t; before the run's first cycle none does
+-- an assertion that the leader p owns fires in the cycle t; before the run's first cycle and after its last none does
 unfoldable pub fires : RunData → ℕ → ℕ → Bool
-fires r p t = if nat_lt t r.cycle then false else list_any (λ x. has (slice_index_or r.owned p []) x.stop)
-    (flat_fired r.flat (values_after r (t - r.cycle)))
+fires r p t = if nat_lt t r.cycle then false else (if nat_lt t (end_of r)
+    then list_any (λ x. has (slice_index_or r.owned p []) x.stop) (flat_fired r.flat (values_after r (t - r.cycle)))
+    else false)
 
 -- ---- no run
 

@@ -2,6 +2,7 @@ use Rattle.std.proofs.Common.{ap, arith}
 use mathlib.Core.Option.{none}
 use Rattle.atomic_table.specs.Table.{step}
 use Rattle.atomic_table.specs.Seated.{TableId}
+use Rattle.named_run.proofs.RunLaws.{fires_below}
 use Rattle.gang_board.specs.Told.{leader}
 use Rattle.gang_board.proofs.PostSeats.{fire_place_there, report_allowed}
 use Rattle.gang_board.proofs.board.Board.report_fire.Goals as goal
@@ -13,5 +14,10 @@ fetch_min-requires c =
     let same = ap (λ (x : TableId). x.words) c.requires.board in (
       c.requires.board,
       omega (arith, there, same),
-      report_allowed p.seat.table_id.words p.number (leader p) p.seat.me p.is t.table_id.slots p.seat.id (step t.table_id.slots 0 c.args.cycle 0 none) c.args.cycle c.requires.cycle c.requires.may,
+      report_allowed p.seat.table_id.words p.number (leader p) p.seat.me p.is t.table_id.slots p.seat.id (step t.table_id.slots 0 c.args.cycle 0 none) c.args.cycle c.requires.cycle record {
+        runs = c.requires.may.runs;
+        new = c.requires.may.new;
+        below = fires_below _ _ _ c.requires.may.fired;
+        fires = c.requires.may.fired;
+      },
     )

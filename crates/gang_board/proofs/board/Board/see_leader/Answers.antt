@@ -41,11 +41,12 @@ invariant_of-post c =
     } in
     let sights = map-set sight_of p.sights.items at seen in
     let after = lagger_after p.seat.table_id.words p.number (lagger p) p.seat.me p.is (saw_leader (number_at c.leader_place.result) (told f))
-    c.load-found.new.seat.me saw.0.0 (with_sight at (told f) (lagger p))
-    (ap (λ (k : ℕ). has_post k) number) saw.0.1 in
+    c.load-found.new.seat.me saw.0 (with_sight at (told f) (lagger p))
+    (ap (λ (k : ℕ). has_post k) number)
+    (length-set (lagger_looks_of p.seat.me.0.laggers) (number_at c.leader_place.result) _ ∙ p.is.looked) saw.1.0 in
     record {
       is = subst (λ (w : ℕ). IsLaggerSeat w p.number record { at = p.position; sights = map sight_of (set p.sights.items at seen) } c.load-found.new.seat.me)
           (ap (λ (x : TableId). x.words) (sym c.load-found.ensures.0))
           (subst (λ (l : List Sight). IsLaggerSeat p.seat.table_id.words p.number record { at = p.position; sights = l } c.load-found.new.seat.me) (sym sights) after);
-      sized = length-set p.sights.items at seen ∙ p.sized ∙ sym (ap (λ m. m.0.named.parts) saw.0.0);
+      sized = length-set p.sights.items at seen ∙ p.sized ∙ sym (ap (λ m. m.0.named.parts) saw.0);
     }
