@@ -1,6 +1,6 @@
 //! The whole stimulus: from a source to rows, one after another, or the first refusal with its line.
 //!
-//! Below: `dt_core`, `dt_io`. Above: nothing yet; it takes the place of `stim`, which reads a narrower form, once the program calls it.
+//! Below: `dt_core`, `dt_io`. Above: `dessert`, which runs a design over the rows.
 //! Promise: `specs/Stimulus` says which rows, or which refusal on which line, the bytes are for data inputs of any width up to
 //! `MAX_WIDTH` and names in any order. However the source cuts its bytes, `next_row` gives those rows in order, the end only after a
 //! whole stimulus, and else exactly that refusal; `Truncated` only where the source ended. It takes nothing after the bytes among which
