@@ -1,5 +1,5 @@
 -- The tokens of the tests' channel.
-use Rattle.std.proofs.Common.{◌≡◌, ℕ, zero, suc, ◌<◌, List, [], ◌∷◌, get_or, refl, sym, subst, arith}
+use Rattle.std.proofs.Common.{◌≡◌, ℕ, zero, suc, ◌<◌, [], ◌∷◌, get_or, refl, sym, subst, arith}
 use Rattle.named_run.specs.Named.{token_of, HasShape}
 use Rattle.named_run.proofs.RunLaws.{token_shaped}
 use Rattle.named_run.specs.declared.token.Token.{Token}

@@ -1,5 +1,5 @@
 -- The run of the tests. This project's own.
-use Rattle.std.specs.Prelude.{ℕ, List, [], ◌∷◌, replicate}
+use Rattle.std.specs.Prelude.{[], ◌∷◌, replicate}
 use Rattle.named_run.specs.Named.{RunData, no_flat}
 
 -- nine rows, a leader that owns no assertion, and a channel that carries no register

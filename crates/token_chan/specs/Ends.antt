@@ -83,11 +83,37 @@ TakerRefused old new = (known : ℕ) × (old.known ≤ known)
 
 -- this used token was got, the one after those got before, and the end may know of more that are put
 abbrev pub Got : Token → Giver → Giver → Type 0
-Got x old new = (known : ℕ) × (old.known_put ≤ known) × (new ≡ record old { got = old.got ++ x ∷ []; known_put = known })
+Got x old new = (known : ℕ) × (old.known_put ≤ known)
+    × (new ≡ record old { got = old.got ++ x ∷ []; known_put = known })
 
 -- this used token was put in, and the end may know of more that are got
 abbrev pub PutBack : Token → Taker → Taker → Type 0
-PutBack x old new = (known : ℕ) × (old.known_got ≤ known) × (new ≡ record old { put = old.put ++ x ∷ []; known_got = known })
+PutBack x old new = (known : ℕ) × (old.known_got ≤ known)
+    × (new ≡ record old { put = old.put ++ x ∷ []; known_got = known })
+
+-- ---- what the calls answer
+
+-- the token that was to be given came back, since the channel was full
+abbrev pub NotGiven : Token → Giver → Giver → Token → Type 0
+NotGiven token old new t = (t ≡ token) × WasFull old × GiverRefused old new
+
+-- a used token of the channel's shape came, or none, since there was none
+abbrev pub CameBlank : Giver → Giver → Token → Type 0
+CameBlank old new t = HasShape old.name.run old.name.channel t × Got t old new
+
+abbrev pub CameNone : Giver → Giver → Type 0
+CameNone old new = HadNoBlank old × GiverRefused old new
+
+-- the channel's oldest token was taken, or none, since it was empty
+abbrev pub TookNext : Taker → Taker → Token → Type 0
+TookNext old new t = (t ≡ next_taken old) × Took old new
+
+abbrev pub TookNone : Taker → Taker → Type 0
+TookNone old new = WasEmpty old × TakerRefused old new
+
+-- the used token that was to be put in came back, since there was no room
+abbrev pub NotPut : Token → Taker → Taker → Token → Type 0
+NotPut token old new t = (t ≡ token) × HadNoRoom old × TakerRefused old new
 
 -- ---- both ends
 
@@ -95,6 +121,13 @@ PutBack x old new = (known : ℕ) × (old.known_got ≤ known) × (new ≡ recor
 pub record AreEnds (g : Giver) (t : Taker) : Type 0 where
   pub name : g.name ≡ t.name
   pub line : g.line ≡ t.line
+
+-- each end as it is once it knows the other's counts, and counts refusals anew
+abbrev pub giver_caught_up : Giver → Taker → Giver
+giver_caught_up g t = record g { known = t.taken; known_put = length t.put; refusals = 0 }
+
+abbrev pub taker_caught_up : Giver → Taker → Taker
+taker_caught_up g t = record t { known = g.given; known_got = length g.got; refusals = 0 }
 
 -- how they stand at one moment: the channel holds what is given and not taken, at most as many as its depth; and no end
 -- knows of more than is so

@@ -8,6 +8,9 @@ pub record Name : Type 0 where
   pub channel : ℕ
   pub depth : ℕ
 
+abbrev pub name_of : RunData → ℕ → ℕ → Name
+name_of run channel depth = record { run = run; channel = channel; depth = depth }
+
 -- where nothing is named yet
 abbrev pub no_name : Name
 no_name = record { run = no_run 0; channel = 0; depth = 0 }

@@ -2,7 +2,7 @@
 
 ghost use Rattle.std.specs.Prelude.{◌≡◌, MatchOption, MatchResult};
 ghost use Rattle.named_run.specs.Named.{HasShape};
-ghost use Rattle.token_chan.specs.Ends.{Giver, Taker, next_given, next_taken, WasFull, WasEmpty, HadNoBlank, HadNoRoom, Gave, Took, Got, PutBack, GiverRefused, TakerRefused};
+ghost use Rattle.token_chan.specs.Ends.{Giver, Taker, next_given, Gave, NotGiven, CameBlank, CameNone, TookNext, TookNone, PutBack, NotPut};
 
 use named_run::token::Token;
 
@@ -13,11 +13,13 @@ pub trait GiveEnd {
     /// Gives the channel's next token. It comes back only where the channel was full at a moment of the call.
     fn give(&mut self, token: Token) -> Result<(), Token>
         requires { token ≡ next_given (told self.old) }
-        ensures { MatchResult result (λ _. Gave (told self.old) (told self.new)) (λ t. (t ≡ token) × WasFull (told self.old) × GiverRefused (told self.old) (told self.new)) };
+        ensures { MatchResult result (λ _. Gave (told self.old) (told self.new))
+            (NotGiven token (told self.old) (told self.new)) };
 
     /// The oldest used token, to be filled anew; none only where there was none at a moment of the call.
     fn blank(&mut self) -> Option<Token>
-        ensures { MatchOption result (HadNoBlank (told self.old) × GiverRefused (told self.old) (told self.new)) (λ t. HasShape (told self.old).name.run (told self.old).name.channel t × Got t (told self.old) (told self.new)) };
+        ensures { MatchOption result (CameNone (told self.old) (told self.new))
+            (CameBlank (told self.old) (told self.new)) };
 }
 
 /// The taking end of a channel.
@@ -26,10 +28,12 @@ pub trait TakeEnd {
 
     /// The channel's oldest token; none only where it was empty at a moment of the call.
     fn take(&mut self) -> Option<Token>
-        ensures { MatchOption result (WasEmpty (told self.old) × TakerRefused (told self.old) (told self.new)) (λ t. (t ≡ next_taken (told self.old)) × Took (told self.old) (told self.new)) };
+        ensures { MatchOption result (TookNone (told self.old) (told self.new))
+            (TookNext (told self.old) (told self.new)) };
 
     /// Hands a used token back. It comes back only where there was no room for it at a moment of the call.
     fn hand_back(&mut self, token: Token) -> Result<(), Token>
         requires { HasShape (told self.old).name.run (told self.old).name.channel token }
-        ensures { MatchResult result (λ _. PutBack token (told self.old) (told self.new)) (λ t. (t ≡ token) × HadNoRoom (told self.old) × TakerRefused (told self.old) (told self.new)) };
+        ensures { MatchResult result (λ _. PutBack token (told self.old) (told self.new))
+            (NotPut token (told self.old) (told self.new)) };
 }

@@ -5,6 +5,7 @@ ghost use Rattle.crossbeam_queue.specs.Passes.{view, IsPassOf, ruled_capacity};
 ghost use Rattle.named_run.specs.Named.{HasShape, token_of};
 ghost use Rattle.token_chan.specs.Line.{whole_view};
 ghost use Rattle.token_chan.specs.Spares.{IsFilled};
+ghost use Rattle.token_chan.specs.Names.{name_of};
 ghost use Rattle.token_chan.specs.Ends.{AreNewEnds};
 ghost use Rattle.token_chan.specs.Told.{give_told, take_told};
 
@@ -29,7 +30,8 @@ fn open_line<C: ChannelName, R: Wait>(
 ) -> Result<(Line, Pass<Token, View>), NoMemory>
     requires depth { (2 ≤ depth) × (C.name.depth ≡ depth) }
     requires first { first ≡ token_of C.name.run C.name.channel first.cycle }
-    ensures { IfOk result (λ r. IsPassOf r.0 r.1 × (ruled_capacity r.0 ≡ depth) × (view r.1 ≡ whole_view C.name (first.cycle + 1) first.cycle)) }
+    ensures { IfOk result (λ r. IsPassOf r.0 r.1 × (ruled_capacity r.0 ≡ depth)
+        × (view r.1 ≡ whole_view C.name (first.cycle + 1) first.cycle)) }
 {
     let (line, mut pass) = Line::ruled(alloc, depth as usize)?;
     match line.push_as::<Names<C>, R>(rt, &mut pass, first) {
@@ -122,7 +124,8 @@ pub fn ruled_pair<N: RunName, R: Wait + Copy>(
     requires first { first ≡ token_of N.run channel first.cycle }
     requires count { length blanks.items + 1 ≡ depth }
     requires blanks { All (HasShape N.run channel) blanks.items }
-    ensures { IfOk result (λ ends. AreNewEnds (record { run = N.run; channel = channel; depth = depth }) first.cycle blanks.items (give_told ends.0) (take_told ends.1)) }
+    ensures { IfOk result (λ ends. AreNewEnds (name_of N.run channel depth) first.cycle blanks.items
+        (give_told ends.0) (take_told ends.1)) }
 {
     open::<Brand, R>(rt, alloc, channel, depth, first, blanks)
 }

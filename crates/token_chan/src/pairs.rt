@@ -2,7 +2,8 @@
 
 ghost use Rattle.std.specs.Prelude.{◌≡◌, ◌+◌, ◌≤◌, ℕ, min, All, IfOk, length};
 ghost use Rattle.named_run.specs.Named.{HasShape, token_of};
-ghost use Rattle.token_chan.specs.Ends.{Giver, Taker, AreEnds, AreNewEnds, TokensStand, UsedStand, IsClosed, most};
+ghost use Rattle.token_chan.specs.Names.{name_of};
+ghost use Rattle.token_chan.specs.Ends.{Giver, Taker, AreEnds, AreNewEnds, giver_caught_up, taker_caught_up, TokensStand, UsedStand, IsClosed, most};
 
 use crate::ends::{GiveEnd, TakeEnd};
 use dt_core::fault::NoMemory;
@@ -35,13 +36,16 @@ pub trait Pairs: Send {
         requires first { first ≡ token_of N.run channel first.cycle }
         requires count { length blanks.items + 1 ≡ depth }
         requires blanks { All (HasShape N.run channel) blanks.items }
-        ensures { IfOk result (λ ends. AreNewEnds (record { run = N.run; channel = channel; depth = depth }) first.cycle blanks.items (Self.Give.GiveEnd.told ends.0) (Self.Take.TakeEnd.told ends.1)) };
+        ensures { IfOk result (λ ends. AreNewEnds (name_of N.run channel depth) first.cycle blanks.items
+            (Self.Give.GiveEnd.told ends.0) (Self.Take.TakeEnd.told ends.1)) };
 
     /// Lets each end know the other's counts as they are, and begin to count refusals anew. It tells how the two stand.
     fn catch_up(&self, give: &mut Self::Give, take: &mut Self::Take)
         requires { AreEnds (Self.Give.GiveEnd.told give.old) (Self.Take.TakeEnd.told take.old) }
-        ensures give { Self.Give.GiveEnd.told give.new ≡ record (Self.Give.GiveEnd.told give.old) { known = (Self.Take.TakeEnd.told take.old).taken; known_put = length (Self.Take.TakeEnd.told take.old).put; refusals = 0 } }
-        ensures take { Self.Take.TakeEnd.told take.new ≡ record (Self.Take.TakeEnd.told take.old) { known = (Self.Give.GiveEnd.told give.old).given; known_got = length (Self.Give.GiveEnd.told give.old).got; refusals = 0 } }
+        ensures give { Self.Give.GiveEnd.told give.new
+            ≡ giver_caught_up (Self.Give.GiveEnd.told give.old) (Self.Take.TakeEnd.told take.old) }
+        ensures take { Self.Take.TakeEnd.told take.new
+            ≡ taker_caught_up (Self.Give.GiveEnd.told give.old) (Self.Take.TakeEnd.told take.old) }
         ensures tokens { TokensStand (Self.Give.GiveEnd.told give.old) (Self.Take.TakeEnd.told take.old) }
         ensures used { UsedStand (Self.Give.GiveEnd.told give.old) (Self.Take.TakeEnd.told take.old) };
 
@@ -53,7 +57,8 @@ pub trait Pairs: Send {
         take: Self::Take,
     ) -> Result<(Option<Token>, Vec<Token>), NoMemory>
         requires { AreEnds (Self.Give.GiveEnd.told give) (Self.Take.TakeEnd.told take) }
-        ensures tokens { IfOk result (λ r. IsClosed (Self.Give.GiveEnd.told give) (Self.Take.TakeEnd.told take) r.0 r.1.items) }
+        ensures tokens { IfOk result (λ r.
+            IsClosed (Self.Give.GiveEnd.told give) (Self.Take.TakeEnd.told take) r.0 r.1.items) }
         ensures sent { sent self.new ≡ min (sent self.old + (Self.Give.GiveEnd.told give).sent) most };
 
     /// How many tokens were sent over the channels that were closed.

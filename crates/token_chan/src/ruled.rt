@@ -195,7 +195,8 @@ fn used_tokens<R: Wait>(
     requires pass { IsPassOf spares.now pass.old }
     requires both { ((view pass.old).gets ≡ true) × ((view pass.old).puts ≡ true) }
     ensures all { IfOk result (λ ts. (view pass.old).got ++ ts.items ≡ (view pass.old).put) }
-    ensures shaped { IfOk result (λ ts. All (HasShape (view pass.old).name.run (view pass.old).name.channel) ts.items) }
+    ensures shaped { IfOk result (λ ts.
+        All (HasShape (view pass.old).name.run (view pass.old).name.channel) ts.items) }
 {
     let mut tokens = Vec::with_capacity(alloc, most)?;
     while let Some(token) = spares.pop_as::<GetsLast, R>(rt, pass) {
