@@ -1,5 +1,5 @@
 -- The rules of operators of one level, and of choices.
-use Rattle.std.proofs.Common.{◌≡◌, ◌≤◌, ◌<◌, ◌+◌, ℕ, suc, List, [], ◌∷◌, ◌++◌, refl, sym, ◌∙◌, ap, subst, append_assoc, append-nil}
+use Rattle.std.proofs.Common.{◌≡◌, ◌≤◌, ◌<◌, ◌+◌, ℕ, zero, suc, List, [], ◌∷◌, ◌++◌, refl, sym, ◌∙◌, ap, subst, append_assoc, append-nil}
 use Rattle.std.proofs.Common.{arith, ◌⊎◌, inl, inr}
 use Rattle.std.specs.Prelude.{Option, Some, None}
 use Rattle.std.proofs.Math.Nat.{eq-or-lt_of_le}
@@ -20,9 +20,9 @@ use Rattle.vl_read.proofs.Pieces.{Links, link_any, took_empty}
 use Rattle.vl_read.proofs.Fails.{fails_first}
 use Rattle.vl_read.proofs.Leads.{Leads, leads_on, leads_as, leads_after, leads_second}
 use Rattle.vl_read.proofs.TokenRules.{somewhere, took_kind, link_kind_first}
-use Rattle.vl_expr.specs.Ends.{mark_level, next_level, Ends, EndsExpr, NotAt}
+use Rattle.vl_expr.specs.Ends.{mark_level, next_level, level_at, Ends, EndsExpr, NotAt}
 use Rattle.vl_expr.specs.Lists.{linked, chosen, tail_at, tail_depths}
-use Rattle.vl_expr.proofs.Common.{ends_less, ends_to, ends_question, colon_ends, some_number, zero_literal}
+use Rattle.vl_expr.proofs.Common.{ends_less, ends_to, not_at, ends_question, colon_ends, some_number, zero_literal}
 use Rattle.vl_expr.proofs.Levels.{operator_level, level_most}
 
 -- ---- operators of one level
@@ -151,6 +151,32 @@ module _ (d limit n : ℕ) (h : limit ≡ suc n) (some : 1 ≤ n) (most : n ≤ 
   chain_next x t1 q =
       subst (λ l. Leads (links_at n) (links_depths d) (Ends (suc n)) (Ends (suc n)) t1 (below l) (expr_depths d) (Ends l) (Ends l) ts (λ ls. linked x ls)) (sym h)
       (leads_on (leads_second (below n) (expr_depths d) (links_at n) (links_depths d) (Ends (suc n)) (Ends (suc n)) (Ends n) (Ends n) (links_link d n) x ts t1 q) level_parts)
+
+-- An expression of a level is one of each higher level too: a single operand, where no operator of the levels between comes next. Here
+-- `k` levels are between.
+module _ (d limit : ℕ) (most : limit ≤ 11) (ts : List Placed) where
+  pub raise_fails : (k n : ℕ) → limit ≡ k + n → 1 ≤ n → (e : Fault) → Refuses (below n) (expr_depths d) (Ends n) (Ends n) ts e
+      → Refuses (below limit) (expr_depths d) (Ends limit) (Ends limit) ts e
+  raise_fails zero n h some e r =
+      let i : n ≡ limit = omega (arith, h) in
+      subst (λ l. Refuses (below l) (expr_depths d) (Ends l) (Ends l) ts e) i r
+  raise_fails (suc k) n h some e r =
+      raise_fails k (suc n) (omega (arith, h)) (omega arith) e (chain_fails d (suc n) n refl some (omega (arith, h, most)) ts e r)
+
+  module _ (rest : List Placed) (x : Expr) where
+    pub raise_took : (k n : ℕ) → limit ≡ k + n → 1 ≤ n → ((l : ℕ) → n ≤ l → l < limit → NotAt l rest)
+        → Took (below n) (expr_depths d) (Ends n) (Ends n) x ts rest → Took (below limit) (expr_depths d) (Ends limit) (Ends limit) x ts rest
+    raise_took zero n h some f p =
+        let i : n ≡ limit = omega (arith, h) in
+        subst (λ l. Took (below l) (expr_depths d) (Ends l) (Ends l) x ts rest) i p
+    raise_took (suc k) n h some f p =
+        raise_took k (suc n) (omega (arith, h)) (omega arith) (λ l i j. f l (omega (arith, i)) j)
+        ((chain_next d (suc n) n refl some (omega (arith, h, most)) ts x rest p).took no_link rest
+        (links_none d n rest (f n (omega arith) (omega (arith, h)))))
+
+-- the level at which what comes next goes on is no lower one
+pub level_above : (n : ℕ) (rest : List Placed) → level_at rest ≡ n → (l : ℕ) → l < n → NotAt l rest
+level_above n rest h l i = not_at l rest (λ j. omega (arith, h, i, j))
 
 -- ---- choices
 

@@ -11,7 +11,7 @@ use Rattle.vl_read.proofs.Pieces.{Productive}
 use Rattle.vl_read.proofs.TokenRules.{somewhere}
 use Rattle.vl_expr.specs.declared.operators.Separator.{Separator}
 use Rattle.vl_expr.specs.declared.operators.Separator.TheVariants as sep
-use Rattle.vl_expr.specs.Ends.{separator_mark, next_level, Ends, EndsExpr, EndsList, EndsSelect}
+use Rattle.vl_expr.specs.Ends.{separator_mark, next_level, level_at, Ends, EndsExpr, NotAt, EndsList, EndsSelect}
 
 abbrev pub NB : List Placed → Type 0
 NB = Not (k.mark m.OpenBracket)
@@ -25,6 +25,10 @@ ends_less n (a ∷ z) f = omega (arith, f)
 pub ends_to : (n limit : ℕ) → n ≤ limit → (z : List Placed) → Ends limit z → Ends n z
 ends_to n limit i [] f = tt
 ends_to n limit i (a ∷ z) f = omega (arith, i, f)
+
+pub not_at : (n : ℕ) (z : List Placed) → (level_at z ≡ n → ⊥) → NotAt n z
+not_at n [] f = tt
+not_at n (a ∷ z) f = f
 
 pub ends_bracket : (z : List Placed) → Ends 1 z → NB z
 ends_bracket [] f = tt

@@ -1,5 +1,5 @@
 -- What may come after an expression, so that it ends there. This project's own.
-use Rattle.std.specs.Prelude.{ℕ, ◌≡◌, ◌≤◌, List, [], ◌∷◌, Option, Some, None}
+use Rattle.std.specs.Prelude.{ℕ, ◌≡◌, ◌≤◌, ◌<◌, List, [], ◌∷◌, Option, Some, None}
 use Rattle.bit_ops.specs.declared.operator.Binary.{Binary}
 use Rattle.dt_core.specs.declared.place.Place as place_code
 use Rattle.vl_tree.specs.declared.token.Mark.{Mark}
@@ -35,6 +35,11 @@ next_level (k.system s) = 12
 next_level (k.str s) = 12
 next_level (k.key w) = 12
 
+-- the same for what comes next
+abbrev pub level_at : List Placed → ℕ
+level_at [] = 12
+level_at (a ∷ rest) = next_level (kind_of a)
+
 -- nothing comes next with which an expression of a level below n goes on
 abbrev pub Ends : ℕ → List Placed → Type 0
 Ends n [] = Unit {0}
@@ -63,6 +68,11 @@ abbrev pub FindsOperator : ℕ → List Placed → Option (Binary × place_code.
 FindsOperator n ts (Some x) = (b : Mark) × (binary_of b ≡ Some x.0) × (binary_level x.0 ≡ n)
     × (ts ≡ at (k.mark b) (place x.1) ∷ x.2)
 FindsOperator n ts None = NotAt n ts
+
+-- the level of what comes next, from the first number on and below the second, or that it is none of them
+abbrev pub FindsLevel : ℕ → ℕ → List Placed → Option ℕ → Type 0
+FindsLevel lower limit ts (Some n) = (level_at ts ≡ n) × (lower ≤ n) × (n < limit)
+FindsLevel lower limit ts None = (n : ℕ) → lower ≤ n → n < limit → NotAt n ts
 
 -- the mark of a separator (A.8.4)
 abbrev pub separator_mark : Separator → Mark

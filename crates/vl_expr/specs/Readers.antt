@@ -1,5 +1,5 @@
 -- What the readers of parts of an expression answer. This project's own.
-use Rattle.std.specs.Prelude.{ℕ, List, Result}
+use Rattle.std.specs.Prelude.{ℕ, ◌+◌, List, Result}
 use Rattle.vl_tree.specs.declared.token.Mark.TheVariants as m
 use Rattle.vl_tree.specs.declared.expression.Expr as code
 use Rattle.vl_tree.specs.declared.expression.Selected.{Selected}
@@ -7,10 +7,10 @@ use Rattle.vl_tree.specs.Token as k
 use Rattle.vl_tree.specs.Syntax.{Place, Expr}
 use Rattle.vl_tree.specs.SyntaxView.{expr, read_selects}
 use Rattle.vl_tree.specs.Placed.{Placed}
-use Rattle.vl_tree.specs.Expressions.{selects_at}
-use Rattle.vl_tree.specs.Depth.{selects_depths}
+use Rattle.vl_tree.specs.Expressions.{below, selects_at}
+use Rattle.vl_tree.specs.Depth.{expr_depths, selects_depths}
 use Rattle.vl_read.specs.declared.fault.Fault.{Fault}
-use Rattle.vl_read.specs.Reading.{Reads}
+use Rattle.vl_read.specs.Reading.{Took, Reads}
 use Rattle.vl_read.specs.Tokens.{Not}
 use Rattle.vl_expr.specs.Ends.{Ends, EndsList}
 use Rattle.vl_expr.specs.Lists.{exprs_of, list_after, list_after_depths, named_at, named_depths}
@@ -22,6 +22,12 @@ ReadsNamed t p d ts r = Reads expr (named_at t p) (named_depths d) (Ends 1) (End
 -- the list that begins with this expression, from after it on
 abbrev pub ReadsMore : Expr → ℕ → List Placed → Result (List code.Expr × List Placed) Fault → Type 0
 ReadsMore e d ts r = Reads exprs_of (list_after e) (list_after_depths d) EndsList EndsList ts r
+
+-- The whole that begins with this expression, which stands before operators of this level: an expression of this level at most, wherever
+-- that one began.
+abbrev pub ReadsLinks : ℕ → ℕ → Expr → List Placed → Result (code.Expr × List Placed) Fault → Type 0
+ReadsLinks n d e us r = (ts : List Placed) → Took (below n) (expr_depths d) (Ends n) (Ends n) e ts us
+    → Reads expr (below (n + 1)) (expr_depths d) (Ends (n + 1)) (Ends (n + 1)) ts r
 
 -- selects, after which no other comes
 abbrev pub ReadsSelects : ℕ → List Placed → Result (List (Selected code.Expr) × List Placed) Fault → Type 0

@@ -9,10 +9,10 @@ ghost use Rattle.vl_tree.specs.Depth.{expr_depths, exprs_depths, select_depths};
 ghost use Rattle.vl_read.specs.Reading.{Reads, Any};
 ghost use Rattle.vl_read.specs.Tokens.{Not};
 ghost use Rattle.vl_expr.specs.Ends.{Ends, EndsExpr, EndsList, EndsSelect};
-ghost use Rattle.vl_expr.specs.Readers.{ReadsNamed, ReadsMore, ReadsSelects};
+ghost use Rattle.vl_expr.specs.Readers.{ReadsLinks, ReadsNamed, ReadsMore, ReadsSelects};
 ghost use Rattle.vl_expr.specs.Lists as list;
 
-use crate::operators::{Separator, Start, find_operator, find_separator, start_of};
+use crate::operators::{Separator, Start, find_level, find_operator, find_separator, start_of};
 use crate::parts::{chosen, linked};
 use dt_core::limits::MAX_DEPTH;
 use dt_core::place::Place;
@@ -21,6 +21,7 @@ use sqlite_items::{Boxed, Items};
 use std::alloc::Global;
 use vl_read::cursor::Cursor;
 use vl_read::fault::Fault;
+use vl_read::lists::{list_of, room_for};
 use vl_tree::expression::{Choice, Expr, Link, Name, Select, Selected};
 use vl_tree::token::Mark;
 
@@ -55,7 +56,7 @@ pub fn read_expr<'a>(alloc: Global, at: Cursor<'a>, depth: u32) -> Result<(Expr,
     }
 }
 
-// An expression whose level is below this limit: operators of the level before it, with their operands.
+// An expression whose level is below this limit: a primary, and then operators of each level in turn that comes next.
 #[cycle(expression)]
 fn read_chain<'a>(
     alloc: Global,
@@ -70,19 +71,48 @@ fn read_chain<'a>(
     ensures shorter { IfOk result (λ x. length x.1 < length at.entry) }
     ensures shallow { IfOk result (λ x. depth ≤ MAX_DEPTH) }
 {
-    if limit == 1 {
-        return read_primary(alloc, at, depth);
-    }
-    let (first, mut rest) = read_chain(alloc, at, limit - 1, depth)?;
-    let mut links = Items::new(alloc);
+    let (first, after) = read_primary(alloc, at, depth)?;
+    let mut expr = first;
+    let mut rest = after;
+    let mut lower = 1;
     loop {
-        match find_operator(&rest, limit - 1) {
+        match find_level(&rest, lower, limit) {
+            None => return Ok((expr, rest)),
+            Some(level) => {
+                let (chain, after) = read_links(alloc, rest, level, depth, expr)?;
+                expr = chain;
+                rest = after;
+                lower = level + 1;
+            }
+        }
+    }
+}
+
+// The operators of this level that come first, with their right operands, and before them this expression.
+#[cycle(expression)]
+fn read_links<'a>(
+    alloc: Global,
+    at: Cursor<'a>,
+    level: u32,
+    depth: u32,
+    first: Expr,
+) -> Result<(Expr, Cursor<'a>), Fault>
+    requires some { 1 ≤ level }
+    requires most { level ≤ 10 }
+    requires low { depth ≤ MAX_DEPTH }
+    ensures reads { ReadsLinks level depth (view.expr first) at.entry result }
+    ensures shorter { IfOk result (λ x. length x.1 ≤ length at.entry) }
+{
+    let mut links = room_for(alloc, 1)?;
+    let mut rest = at;
+    loop {
+        match find_operator(&rest, level) {
             None => {
                 let expr = linked(alloc, first, links)?;
                 return Ok((expr, rest));
             }
             Some((operator, place, inner)) => {
-                let (operand, after) = read_chain(alloc, inner, limit - 1, depth)?;
+                let (operand, after) = read_chain(alloc, inner, level, depth)?;
                 links.push(Link {
                     operator,
                     place,
@@ -222,8 +252,7 @@ pub fn read_more<'a>(
     ensures reads { ReadsMore (view.expr first) depth at.entry result }
     ensures shorter { IfOk result (λ x. length x.1 ≤ length at.entry) }
 {
-    let mut all = Items::new(alloc);
-    all.push(first)?;
+    let mut all = list_of(alloc, first)?;
     let mut rest = at;
     loop {
         match rest.find_mark(Mark::Comma) {
@@ -248,7 +277,10 @@ pub fn read_selects<'a>(
     ensures reads { ReadsSelects depth at.entry result }
     ensures shorter { IfOk result (λ x. length x.1 ≤ length at.entry) }
 {
-    let mut selects = Items::new(alloc);
+    let Some(_) = at.find_mark(Mark::OpenBracket) else {
+        return Ok((Items::new(alloc), at));
+    };
+    let mut selects = room_for(alloc, 1)?;
     let mut rest = at;
     loop {
         match rest.find_mark(Mark::OpenBracket) {

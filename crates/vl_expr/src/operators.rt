@@ -5,7 +5,8 @@ ghost use Rattle.vl_tree.specs.Token.{coded_kind};
 ghost use Rattle.vl_tree.specs.Token as k;
 ghost use Rattle.vl_tree.specs.Expressions as grammar;
 ghost use Rattle.vl_expr.specs.Starts.{BeginsWith};
-ghost use Rattle.vl_expr.specs.Ends.{FindsOperator, FindsSeparator, IsOperator};
+ghost use Rattle.vl_expr.specs.Ends as ends;
+ghost use Rattle.vl_expr.specs.Ends.{level_at, FindsOperator, FindsLevel, FindsSeparator, IsOperator};
 
 use bit_ops::{Binary, Unary};
 use dt_core::place::Place;
@@ -176,6 +177,53 @@ pub fn find_operator<'a>(at: &Cursor<'a>, wanted: u32) -> Option<(Binary, Place,
         }
         _ => None,
     }
+}
+
+// The level at which a mark goes on with an expression: 0 for a select or arguments, that of its operator, 11 for a choice, 12 where it
+// doesn't.
+fn mark_level(mark: Mark) -> u32
+    ensures { result ≡ ends.mark_level mark }
+{
+    match mark {
+        Mark::OpenBracket | Mark::OpenParen => 0,
+        Mark::Star | Mark::Slash | Mark::Percent => 1,
+        Mark::Plus | Mark::Minus => 2,
+        Mark::ShiftLeft | Mark::ArithmeticLeft | Mark::ShiftRight | Mark::ArithmeticRight => 3,
+        Mark::Less | Mark::LessEqual | Mark::Greater | Mark::GreaterEqual => 4,
+        Mark::EqualEqual | Mark::NotEqual | Mark::CaseEqual | Mark::CaseNotEqual => 5,
+        Mark::And => 6,
+        Mark::Xor | Mark::Xnor => 7,
+        Mark::Or => 8,
+        Mark::AndAnd => 9,
+        Mark::OrOr => 10,
+        Mark::Question => 11,
+        _ => 12,
+    }
+}
+
+// The level at which the first token goes on with an expression, 12 where it doesn't.
+fn next_level(at: &Cursor<'_>) -> u32
+    ensures { result ≡ level_at at.now }
+{
+    let Some((token, _, _)) = at.next() else {
+        return 12;
+    };
+    match token.kind {
+        TokenKind::Mark(mark) => mark_level(mark),
+        _ => 12,
+    }
+}
+
+/// The level of the operator that comes first, if it is `lower` at least and below `limit`.
+pub fn find_level(at: &Cursor<'_>, lower: u32, limit: u32) -> Option<u32>
+    requires { (1 ≤ lower) × (limit ≤ 11) }
+    ensures { FindsLevel lower limit at.now result }
+{
+    let level = next_level(at);
+    if level < lower {
+        return None;
+    }
+    if level < limit { Some(level) } else { None }
 }
 
 /// The separator that comes first, and the tokens after it.

@@ -6,6 +6,7 @@ ghost use Rattle.vl_read.specs.Commas.{ReadsCommas};
 
 use crate::cursor::Cursor;
 use crate::fault::Fault;
+use crate::lists::list_of;
 use sqlite_items::Items;
 use std::alloc::Global;
 use vl_tree::token::Mark;
@@ -57,9 +58,8 @@ pub fn read_commas<'a, R: Rule>(
     ensures shorter { IfOk result (λ x. length x.1 < length cursor.entry) }
     ensures shallow { IfOk result (λ x. depth ≤ MAX_DEPTH) }
 {
-    let mut all = Items::new(alloc);
     let (first, after) = R::read(alloc, cursor, depth)?;
-    all.push(first)?;
+    let mut all = list_of(alloc, first)?;
     let mut rest = after;
     loop {
         match rest.find_mark(Mark::Comma) {

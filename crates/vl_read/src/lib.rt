@@ -12,5 +12,6 @@
 pub mod commas;
 pub mod cursor;
 pub mod fault;
+pub mod lists;
 
 pub use dt_core::limits::MAX_DEPTH;

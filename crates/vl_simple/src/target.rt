@@ -11,6 +11,7 @@ use std::alloc::Global;
 use vl_expr::read_selects;
 use vl_read::cursor::Cursor;
 use vl_read::fault::Fault;
+use vl_read::lists::list_of;
 use vl_tree::expression::Name;
 use vl_tree::statement::Target;
 use vl_tree::token::{Mark, Token, TokenKind};
@@ -81,9 +82,8 @@ fn read_targets<'a>(
     ensures shorter { IfOk result (λ x. length x.1 < length at.entry) }
     ensures shallow { IfOk result (λ x. depth ≤ MAX_DEPTH) }
 {
-    let mut all = Items::new(alloc);
     let (first, after) = read_target(alloc, at, depth)?;
-    all.push(first)?;
+    let mut all = list_of(alloc, first)?;
     let mut rest = after;
     loop {
         match rest.find_mark(Mark::Comma) {

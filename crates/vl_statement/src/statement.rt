@@ -17,6 +17,7 @@ use std::alloc::Global;
 use vl_expr::read_list;
 use vl_read::cursor::Cursor;
 use vl_read::fault::Fault;
+use vl_read::lists::list_of;
 use vl_simple::{
     Start, pass_colon, read_assign, read_fatal, read_file_print, read_grouped, read_label,
     read_print, read_stop, start_of,
@@ -99,8 +100,7 @@ fn read_conditional<'a>(
     ensures shorter { IfOk result (λ x. length x.1 < length at.entry) }
 {
     let (first, after) = read_branch(alloc, at, depth, place)?;
-    let mut branches = Items::new(alloc);
-    branches.push(first)?;
+    let mut branches = list_of(alloc, first)?;
     let mut rest = after;
     loop {
         let Some((_, after)) = rest.find_key(Key::Else) else {
@@ -158,8 +158,7 @@ fn read_select<'a>(
 {
     let (selector, after) = read_grouped(alloc, at, depth)?;
     let (first, after) = read_arm(alloc, after, depth + 1)?;
-    let mut arms = Items::new(alloc);
-    arms.push(first)?;
+    let mut arms = list_of(alloc, first)?;
     let mut rest = after;
     loop {
         match rest.find_key(Key::Endcase) {

@@ -9,7 +9,7 @@ use Rattle.vl_tree.specs.Depth.{select_depths}
 use Rattle.vl_read.specs.Reading.{Took}
 use Rattle.vl_read.proofs.Leads.{leads_reads}
 use Rattle.vl_expr.specs.Ends.{EndsSelect}
-use Rattle.vl_expr.specs.Lists.{exprs_of, choices_of, select_of}
+use Rattle.vl_expr.specs.Lists.{exprs_of, links_of, choices_of, select_of}
 use Rattle.vl_expr.proofs.Views as view
 use Rattle.vl_expr.proofs.Selects as rule_select
 use Rattle.vl_expr.proofs.Chains as rule_chain
@@ -51,38 +51,41 @@ read_select-returns-in-Downward-clause-reads t c =
 
 -- ---- selects
 
+pub read_selects-returns-in_default-clause-reads : goal.read_selects-returns-in_default-clause-reads
+read_selects-returns-in_default-clause-reads t c = rw c.new.ensures (rule_select.selects_none c.args.depth c.args.at c.in_default.ensures.reads)
+
 pub read_selects-returns-in-None-clause-reads : goal.read_selects-returns-in-None-clause-reads
 read_selects-returns-in-None-clause-reads t c =
     rw (← view.selects_on-none c.loop-selects.selects) (c.loop-selects.invariant.took no_select _ (rule_select.selects_none c.args.depth c.loop-selects.rest c.in-None.ensures.reads))
 
-pub read_selects-returns-in_err-select-in-Some-clause-reads : goal.read_selects-returns-in_err-select-in-Some-clause-reads
-read_selects-returns-in_err-select-in-Some-clause-reads t c =
-    let p = err_from_is_err_and c.from_residual.result c.from_residual.ensures.1 in
-    rw (p.1, p.2) (c.loop-selects.invariant.fails c.in_err-select-in-Some.field-0.0
-    (rule_select.selects_fails_0 c.args.depth _ c.requires.low c.loop-selects.rest _ c.in-Some.ensures.reads c.in_err-select-in-Some.field-0.0 c.in_err-select-in-Some.ensures.reads))
+pub read_selects-returns-in_err-select-in-Some-find_mark-clause-reads : goal.read_selects-returns-in_err-select-in-Some-find_mark-clause-reads
+read_selects-returns-in_err-select-in-Some-find_mark-clause-reads t c =
+    let p = err_from_is_err_and c.from_residual-in_err-select-in-Some-find_mark.result c.from_residual-in_err-select-in-Some-find_mark.ensures.1 in
+    rw (p.1, p.2) (c.loop-selects.invariant.fails c.in_err-select-in-Some-find_mark.field-0.0
+    (rule_select.selects_fails_0 c.args.depth _ c.requires.low c.loop-selects.rest _ c.in-Some-find_mark.ensures.reads c.in_err-select-in-Some-find_mark.field-0.0 c.in_err-select-in-Some-find_mark.ensures.reads))
 
-pub read_selects-returns-in_err-after-in-Some-clause-reads : goal.read_selects-returns-in_err-after-in-Some-clause-reads
-read_selects-returns-in_err-after-in-Some-clause-reads t c =
-    let p = err_from_is_err_and c.from_residual-in_err-after-in-Some.result c.from_residual-in_err-after-in-Some.ensures.1 in
-    rw (p.1, p.2) (c.loop-selects.invariant.fails c.in_err-after-in-Some.field-0.0
-    (rule_select.selects_fails_1 c.args.depth _ c.requires.low c.loop-selects.rest _ c.in-Some.ensures.reads _ _ c.in_ok-select-in-Some.ensures.reads
-    c.in_err-after-in-Some.field-0.0 (c.in_err-after-in-Some.ensures.reads c.args.depth)))
+pub read_selects-returns-in_err-after-in-Some-find_mark-clause-reads : goal.read_selects-returns-in_err-after-in-Some-find_mark-clause-reads
+read_selects-returns-in_err-after-in-Some-find_mark-clause-reads t c =
+    let p = err_from_is_err_and c.from_residual-in_err-after-in-Some-find_mark.result c.from_residual-in_err-after-in-Some-find_mark.ensures.1 in
+    rw (p.1, p.2) (c.loop-selects.invariant.fails c.in_err-after-in-Some-find_mark.field-0.0
+    (rule_select.selects_fails_1 c.args.depth _ c.requires.low c.loop-selects.rest _ c.in-Some-find_mark.ensures.reads _ _ c.in_ok-select-in-Some-find_mark.ensures.reads
+    c.in_err-after-in-Some-find_mark.field-0.0 (c.in_err-after-in-Some-find_mark.ensures.reads c.args.depth)))
 
 pub read_selects-loop-selects-preserved : goal.read_selects-loop-selects-preserved
 read_selects-loop-selects-preserved t c = record {
   took = λ ss rest p.
-      let e : c.push.new.self ≡ c.loop-selects.selects ++ (record { place = c.in-Some.place; select = c.in_ok-select-in-Some.select }) ∷ [] = c.in_ok-push-in-Some.ensures.ok in
-      rw (e, view.selects_on-one) (c.loop-selects.invariant.took (more_select (plain.place c.in-Some.place) (plain.read_select c.in_ok-select-in-Some.select) ss) rest
-      ((rule_select.selects_next c.args.depth _ c.requires.low c.loop-selects.rest _ c.in-Some.ensures.reads _ _ c.in_ok-select-in-Some.ensures.reads _ c.in_ok-after-in-Some.ensures.reads).took ss rest p));
-  fails = λ e r. c.loop-selects.invariant.fails e ((rule_select.selects_next c.args.depth _ c.requires.low c.loop-selects.rest _ c.in-Some.ensures.reads _ _ c.in_ok-select-in-Some.ensures.reads _ c.in_ok-after-in-Some.ensures.reads).fails e r);
-  shorter = omega (arith, c.in-Some.ensures.shorter, c.in_ok-select-in-Some.ensures.shorter, c.in_ok-after-in-Some.ensures.shorter, c.loop-selects.invariant.shorter);
+      let e : c.push.new.self ≡ c.loop-selects.selects ++ (record { place = c.in-Some-find_mark.place; select = c.in_ok-select-in-Some-find_mark.select }) ∷ [] = c.in_ok-push-in-Some-find_mark.ensures.ok in
+      rw (e, view.selects_on-one) (c.loop-selects.invariant.took (more_select (plain.place c.in-Some-find_mark.place) (plain.read_select c.in_ok-select-in-Some-find_mark.select) ss) rest
+      ((rule_select.selects_next c.args.depth _ c.requires.low c.loop-selects.rest _ c.in-Some-find_mark.ensures.reads _ _ c.in_ok-select-in-Some-find_mark.ensures.reads _ c.in_ok-after-in-Some-find_mark.ensures.reads).took ss rest p));
+  fails = λ e r. c.loop-selects.invariant.fails e ((rule_select.selects_next c.args.depth _ c.requires.low c.loop-selects.rest _ c.in-Some-find_mark.ensures.reads _ _ c.in_ok-select-in-Some-find_mark.ensures.reads _ c.in_ok-after-in-Some-find_mark.ensures.reads).fails e r);
+  shorter = omega (arith, c.in-Some-find_mark.ensures.shorter, c.in_ok-select-in-Some-find_mark.ensures.shorter, c.in_ok-after-in-Some-find_mark.ensures.shorter, c.loop-selects.invariant.shorter);
 }
 
 -- ---- expressions with commas
 
 pub read_more-loop-all-init : goal.read_more-loop-all-init
 read_more-loop-all-init t c =
-    let e : c.push.new.self ≡ c.args.first ∷ [] = c.in_ok-push.ensures.ok ∙ ap (λ w. w ++ c.args.first ∷ []) c.new-all.ensures in
+    let e : c.in_ok-all.all ≡ c.args.first ∷ [] = c.in_ok-all.ensures in
     record {
       took = λ es rest p. rw e ((rule_list.list_more c.args.depth (plain.expr c.args.first) c.args.at).took es rest p);
       fails = λ e r. (rule_list.list_more c.args.depth (plain.expr c.args.first) c.args.at).fails e r;
@@ -102,7 +105,7 @@ read_more-returns-in_err-expr-in-Some-clause-reads t c =
 pub read_more-loop-all-preserved : goal.read_more-loop-all-preserved
 read_more-loop-all-preserved t c = record {
   took = λ es rest p.
-      let e : c.push-in-Some.new.self ≡ c.loop-all.all ++ c.in_ok-expr-in-Some.expr ∷ [] = c.in_ok-push-in-Some.ensures.ok in
+      let e : c.push.new.self ≡ c.loop-all.all ++ c.in_ok-expr-in-Some.expr ∷ [] = c.in_ok-push-in-Some.ensures.ok in
       rw (e, view.exprs_on-one) (c.loop-all.invariant.took (more_expr (plain.expr c.in_ok-expr-in-Some.expr) es) rest ((rule_list.more_next c.args.depth _ c.requires.low c.loop-all.rest _ c.in-Some.ensures.reads _ _ c.in_ok-expr-in-Some.ensures.reads).took es rest p));
   fails = λ e r. c.loop-all.invariant.fails e ((rule_list.more_next c.args.depth _ c.requires.low c.loop-all.rest _ c.in-Some.ensures.reads _ _ c.in_ok-expr-in-Some.ensures.reads).fails e r);
   shorter = omega (arith, c.in-Some.ensures.shorter, c.in_ok-expr-in-Some.ensures.shorter, c.loop-all.invariant.shorter);
@@ -157,51 +160,88 @@ read_expr-loop-choices-preserved t c = record {
   shorter = omega (arith, c.in_ok-condition.ensures.shorter, c.in-Some.ensures.shorter, c.in_ok-value-in-Some.ensures.shorter, c.in_ok-after-in-Some.ensures.shorter, c.loop-choices.invariant.shorter);
 }
 
--- ---- operators of one level
-
-pub read_chain-returns-then-limit-eq1-clause-reads : goal.read_chain-returns-then-limit-eq1-clause-reads
-read_chain-returns-then-limit-eq1-clause-reads t c =
-    let i : c.args.limit ≡ 1 = search rules in
-    rw i c.read_primary.ensures.reads
+-- ---- operators of each level in turn
 
 pub read_chain-returns-in_err-first-clause-reads : goal.read_chain-returns-in_err-first-clause-reads
 read_chain-returns-in_err-first-clause-reads t c =
     let p = err_from_is_err_and c.from_residual.result c.from_residual.ensures.1 in
-    rw (p.1, p.2) (rule_chain.chain_fails c.args.depth c.args.limit (c.args.limit - 1) (omega (arith, c.requires.some, c.if-limit-eq1.false)) (omega (arith, c.requires.some, c.if-limit-eq1.false)) (omega (arith, c.requires.most))
-    c.args.at c.in_err-first.field-0.0 c.in_err-first.ensures.reads)
+    rw (p.1, p.2) (rule_chain.raise_fails c.args.depth c.args.limit c.requires.most c.args.at (c.args.limit - 1) 1 (omega (arith, c.requires.some)) (omega arith)
+    c.in_err-first.field-0.0 c.in_err-first.ensures.reads)
 
-pub read_chain-loop-first-init : goal.read_chain-loop-first-init
-read_chain-loop-first-init t c =
-    let k = rule_chain.chain_next c.args.depth c.args.limit (c.args.limit - 1) (omega (arith, c.requires.some, c.if-limit-eq1.false)) (omega (arith, c.requires.some, c.if-limit-eq1.false)) (omega (arith, c.requires.most))
-    c.args.at _ _ c.in_ok-first.ensures.reads in
-    record {
-      took = λ ls rest p. rw c.new-links.ensures (k.took ls rest p);
-      fails = k.fails;
-      shorter = c.in_ok-first.ensures.shorter;
-    }
+pub read_chain-loop-expr-init : goal.read_chain-loop-expr-init
+read_chain-loop-expr-init t c = record {
+  took = c.in_ok-first.ensures.reads;
+  some = omega arith;
+  most = c.requires.some;
+  shorter = c.in_ok-first.ensures.shorter;
+}
 
 pub read_chain-returns-in-None-clause-reads : goal.read_chain-returns-in-None-clause-reads
 read_chain-returns-in-None-clause-reads t c =
-    rw c.in_ok-expr-in-None.ensures
-    (rw (← view.links_on-none c.loop-first.links)
-    (c.loop-first.invariant.took no_link _ (rule_chain.links_none c.args.depth (c.args.limit - 1) c.loop-first.rest c.in-None.ensures.reads)))
+    rule_chain.raise_took c.args.depth c.args.limit c.requires.most c.args.at c.loop-expr.rest _ (c.args.limit - c.loop-expr.lower) c.loop-expr.lower
+    (omega (arith, c.loop-expr.invariant.most)) c.loop-expr.invariant.some c.in-None.ensures c.loop-expr.invariant.took
 
-pub read_chain-returns-in_err-operand-in-Some-clause-reads : goal.read_chain-returns-in_err-operand-in-Some-clause-reads
-read_chain-returns-in_err-operand-in-Some-clause-reads t c =
-    let p = err_from_is_err_and c.from_residual-in_err-operand-in-Some.result c.from_residual-in_err-operand-in-Some.ensures.1 in
-    rw (p.1, p.2) (c.loop-first.invariant.fails c.in_err-operand-in-Some.field-0.0
-    (rule_chain.link_fails c.args.depth (c.args.limit - 1) c.in-Some.ensures.reads.0 c.in-Some.operator c.in-Some.ensures.reads.1 c.in-Some.ensures.reads.2 _ c.in_ok-first.ensures.shallow c.loop-first.rest _ c.in-Some.ensures.reads.3
-    c.in_err-operand-in-Some.field-0.0 c.in_err-operand-in-Some.ensures.reads))
+pub read_chain-returns-in_err-chain-in-Some-clause-reads : goal.read_chain-returns-in_err-chain-in-Some-clause-reads
+read_chain-returns-in_err-chain-in-Some-clause-reads t c =
+    let p = err_from_is_err_and c.from_residual-in_err-chain-in-Some.result c.from_residual-in_err-chain-in-Some.ensures.1 in
+    let n = c.in-Some.level in
+    let q = c.in-Some.ensures in
+    let w = rule_chain.raise_took c.args.depth n (omega (arith, q.2, c.requires.most)) c.args.at c.loop-expr.rest _ (n - c.loop-expr.lower) c.loop-expr.lower
+    (omega (arith, q.1)) c.loop-expr.invariant.some (λ l i j. rule_chain.level_above n c.loop-expr.rest q.0 l j) c.loop-expr.invariant.took in
+    rw (p.1, p.2) (rule_chain.raise_fails c.args.depth c.args.limit c.requires.most c.args.at (c.args.limit - (n + 1)) (n + 1) (omega (arith, q.2)) (omega arith)
+    c.in_err-chain-in-Some.field-0.0 (c.in_err-chain-in-Some.ensures.reads c.args.at w))
 
-pub read_chain-loop-first-preserved : goal.read_chain-loop-first-preserved
-read_chain-loop-first-preserved t c = record {
-  took = λ ls rest p.
-      let e : c.push.new.self ≡ c.loop-first.links ++ (record { operator = c.in-Some.operator; place = c.in-Some.place; operand = c.in_ok-operand-in-Some.operand }) ∷ [] = c.in_ok-push-in-Some.ensures.ok in
-      rw (e, view.links_on-one)
-      (c.loop-first.invariant.took (more_link c.in-Some.operator (plain.place c.in-Some.place) (plain.expr c.in_ok-operand-in-Some.operand) ls) rest ((rule_chain.link_next c.args.depth (c.args.limit - 1) c.in-Some.ensures.reads.0 c.in-Some.operator c.in-Some.ensures.reads.1 c.in-Some.ensures.reads.2 _ c.in_ok-first.ensures.shallow c.loop-first.rest _ c.in-Some.ensures.reads.3 _ _ c.in_ok-operand-in-Some.ensures.reads).took ls rest p));
-  fails = λ e r. c.loop-first.invariant.fails e ((rule_chain.link_next c.args.depth (c.args.limit - 1) c.in-Some.ensures.reads.0 c.in-Some.operator c.in-Some.ensures.reads.1 c.in-Some.ensures.reads.2 _ c.in_ok-first.ensures.shallow c.loop-first.rest _ c.in-Some.ensures.reads.3 _ _ c.in_ok-operand-in-Some.ensures.reads).fails e r);
-  shorter = omega (arith, c.in-Some.ensures.shorter, c.in_ok-operand-in-Some.ensures.shorter, c.loop-first.invariant.shorter);
+pub read_chain-loop-expr-preserved : goal.read_chain-loop-expr-preserved
+read_chain-loop-expr-preserved t c =
+    let n = c.in-Some.level in
+    let q = c.in-Some.ensures in
+    let w = rule_chain.raise_took c.args.depth n (omega (arith, q.2, c.requires.most)) c.args.at c.loop-expr.rest _ (n - c.loop-expr.lower) c.loop-expr.lower
+    (omega (arith, q.1)) c.loop-expr.invariant.some (λ l i j. rule_chain.level_above n c.loop-expr.rest q.0 l j) c.loop-expr.invariant.took in
+    record {
+      took = c.in_ok-chain-in-Some.ensures.reads c.args.at w;
+      some = omega arith;
+      most = omega (arith, q.2);
+      shorter = omega (arith, c.in_ok-chain-in-Some.ensures.shorter, c.loop-expr.invariant.shorter);
+    }
+
+-- ---- operators of one level
+
+pub read_links-loop-first-init : goal.read_links-loop-first-init
+read_links-loop-first-init t c = record {
+  same = refl;
+  took = λ ls rest p. rw c.in_ok-links.ensures p;
+  fails = λ e r. r;
+  shorter = omega arith;
 }
+
+pub read_links-returns-in-None-clause-reads : goal.read_links-returns-in-None-clause-reads
+read_links-returns-in-None-clause-reads t c =
+    λ ts w. rw (c.in_ok-expr-in-None.ensures, c.loop-first.invariant.same)
+    ((rule_chain.chain_next c.args.depth (c.args.level + 1) c.args.level (omega arith) c.requires.some c.requires.most ts _ c.args.at w).took (links_of c.loop-first.links) _
+    (rw (← view.links_on-none c.loop-first.links)
+    (c.loop-first.invariant.took no_link _ (rule_chain.links_none c.args.depth c.args.level c.loop-first.rest c.in-None.ensures.reads))))
+
+pub read_links-returns-in_err-operand-in-Some-clause-reads : goal.read_links-returns-in_err-operand-in-Some-clause-reads
+read_links-returns-in_err-operand-in-Some-clause-reads t c =
+    let p = err_from_is_err_and c.from_residual-in_err-operand-in-Some.result c.from_residual-in_err-operand-in-Some.ensures.1 in
+    λ ts w. rw (p.1, p.2)
+    ((rule_chain.chain_next c.args.depth (c.args.level + 1) c.args.level (omega arith) c.requires.some c.requires.most ts _ c.args.at w).fails c.in_err-operand-in-Some.field-0.0
+    (c.loop-first.invariant.fails c.in_err-operand-in-Some.field-0.0
+    (rule_chain.link_fails c.args.depth c.args.level c.in-Some.ensures.reads.0 c.in-Some.operator c.in-Some.ensures.reads.1 c.in-Some.ensures.reads.2 _ c.requires.low c.loop-first.rest _ c.in-Some.ensures.reads.3
+    c.in_err-operand-in-Some.field-0.0 c.in_err-operand-in-Some.ensures.reads)))
+
+pub read_links-loop-first-preserved : goal.read_links-loop-first-preserved
+read_links-loop-first-preserved t c =
+    let k = rule_chain.link_next c.args.depth c.args.level c.in-Some.ensures.reads.0 c.in-Some.operator c.in-Some.ensures.reads.1 c.in-Some.ensures.reads.2 _ c.requires.low c.loop-first.rest _ c.in-Some.ensures.reads.3 _ _ c.in_ok-operand-in-Some.ensures.reads in
+    record {
+      same = c.loop-first.invariant.same;
+      took = λ ls rest p.
+          let e : c.push.new.self ≡ c.loop-first.links ++ (record { operator = c.in-Some.operator; place = c.in-Some.place; operand = c.in_ok-operand-in-Some.operand }) ∷ [] = c.in_ok-push-in-Some.ensures.ok in
+          rw (e, view.links_on-one)
+          (c.loop-first.invariant.took (more_link c.in-Some.operator (plain.place c.in-Some.place) (plain.expr c.in_ok-operand-in-Some.operand) ls) rest (k.took ls rest p));
+      fails = λ e r. c.loop-first.invariant.fails e (k.fails e r);
+      shorter = omega (arith, c.in-Some.ensures.shorter, c.in_ok-operand-in-Some.ensures.shorter, c.loop-first.invariant.shorter);
+    }
 
 -- ---- after a name
 

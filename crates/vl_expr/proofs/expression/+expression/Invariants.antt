@@ -1,4 +1,4 @@
-use Rattle.std.proofs.Common.{◌≤◌, ◌<◌, ◌+◌, ◌-◌, ◌*◌, List, suc, length}
+use Rattle.std.proofs.Common.{◌≡◌, ◌≤◌, ◌<◌, ◌+◌, ◌-◌, ◌*◌, List, suc, length}
 use Rattle.vl_tree.specs.Token as k
 use Rattle.vl_tree.specs.declared.token.Mark.TheVariants as m
 use Rattle.vl_tree.specs.Placed.{Placed}
@@ -26,7 +26,10 @@ abbrev pub decreases-read_more : goal.decreases-read_more
 decreases-read_more l = 16 * length l.at + 1
 
 abbrev pub decreases-read_chain : goal.decreases-read_chain
-decreases-read_chain l = 16 * length l.at + l.limit
+decreases-read_chain l = 16 * length l.at + 1
+
+abbrev pub decreases-read_links : goal.decreases-read_links
+decreases-read_links l = 16 * length l.at + 2
 
 abbrev pub decreases-read_expr : goal.decreases-read_expr
 decreases-read_expr l = 16 * length l.at + 12
@@ -56,19 +59,31 @@ decreases-read_expr-loop-choices l = length l.rest
 
 -- ---- operators of one level
 
-abbrev pub invariant-read_chain-loop-first : goal.invariant-read_chain-loop-first
-invariant-read_chain-loop-first l = record {
-  took : (ls : Links) (rest : List Placed)
-      → Took (links_at (l.limit - 1)) (links_depths l.depth) (Ends (suc (l.limit - 1))) (Ends (suc (l.limit - 1))) ls l.rest rest
-      → Took (below l.limit) (expr_depths l.depth) (Ends l.limit) (Ends l.limit) (linked (view.expr l.first) (links_on l.links ls)) l.fn.at rest;
-  fails : (e : Fault)
-      → Refuses (links_at (l.limit - 1)) (links_depths l.depth) (Ends (suc (l.limit - 1))) (Ends (suc (l.limit - 1))) l.rest e
-      → Refuses (below l.limit) (expr_depths l.depth) (Ends l.limit) (Ends l.limit) l.fn.at e;
+abbrev pub invariant-read_chain-loop-expr : goal.invariant-read_chain-loop-expr
+invariant-read_chain-loop-expr l = record {
+  took : Took (below l.lower) (expr_depths l.depth) (Ends l.lower) (Ends l.lower) (view.expr l.expr) l.fn.at l.rest;
+  some : 1 ≤ l.lower;
+  most : l.lower ≤ l.limit;
   shorter : length l.rest < length l.fn.at;
 }
 
-abbrev pub decreases-read_chain-loop-first : goal.decreases-read_chain-loop-first
-decreases-read_chain-loop-first l = length l.rest
+abbrev pub decreases-read_chain-loop-expr : goal.decreases-read_chain-loop-expr
+decreases-read_chain-loop-expr l = l.limit - l.lower
+
+abbrev pub invariant-read_links-loop-first : goal.invariant-read_links-loop-first
+invariant-read_links-loop-first l = record {
+  same : l.first ≡ l.fn.first;
+  took : (ls : Links) (rest : List Placed)
+      → Took (links_at l.level) (links_depths l.depth) (Ends (suc l.level)) (Ends (suc l.level)) ls l.rest rest
+      → Took (links_at l.level) (links_depths l.depth) (Ends (suc l.level)) (Ends (suc l.level)) (links_on l.links ls) l.fn.at rest;
+  fails : (e : Fault)
+      → Refuses (links_at l.level) (links_depths l.depth) (Ends (suc l.level)) (Ends (suc l.level)) l.rest e
+      → Refuses (links_at l.level) (links_depths l.depth) (Ends (suc l.level)) (Ends (suc l.level)) l.fn.at e;
+  shorter : length l.rest ≤ length l.fn.at;
+}
+
+abbrev pub decreases-read_links-loop-first : goal.decreases-read_links-loop-first
+decreases-read_links-loop-first l = length l.rest
 
 -- ---- expressions with commas
 

@@ -11,7 +11,7 @@ returns-in_err-first-clause-reads g c =
 pub loop-all-init : goal.loop-all-init
 loop-all-init g c =
     let k = rule.list_rest g.R.Rule.at g.R.Rule.depths g.R.Rule.may g.R.Rule.laws c.args.depth c.args.cursor _ _ c.in_ok-first.ensures.reads in
-    let e : c.push.new.self ≡ c.in_ok-first.first ∷ [] = c.in_ok-push.ensures.ok ∙ ap (λ w. w ++ c.in_ok-first.first ∷ []) c.new-all.ensures in
+    let e : c.in_ok-all.all ≡ c.in_ok-first.first ∷ [] = c.in_ok-all.ensures in
     record {
       took = λ es rest p. rw e (k.took es rest p);
       fails = k.fails;
@@ -34,7 +34,7 @@ pub loop-all-preserved : goal.loop-all-preserved
 loop-all-preserved g c =
     let k = rule.more_next g.R.Rule.at g.R.Rule.depths g.R.Rule.may g.R.Rule.laws c.args.depth _ c.in_ok-first.ensures.shallow c.loop-all.rest _ c.in-Some.ensures.reads _ _
     c.in_ok-tree-in-Some.ensures.reads in
-    let e : c.push-in-Some.new.self ≡ c.loop-all.all ++ c.in_ok-tree-in-Some.tree ∷ [] = c.in_ok-push-in-Some.ensures.ok in
+    let e : c.push.new.self ≡ c.loop-all.all ++ c.in_ok-tree-in-Some.tree ∷ [] = c.in_ok-push-in-Some.ensures.ok in
     record {
       took = λ es rest p. rw (e, rule.map_more) (c.loop-all.invariant.took (g.R.Rule.view c.in_ok-tree-in-Some.tree ∷ es) rest (k.took es rest p));
       fails = λ e r. c.loop-all.invariant.fails e (k.fails e r);

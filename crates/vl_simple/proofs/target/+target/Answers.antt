@@ -58,7 +58,7 @@ read_targets-returns-in_err-first-clause-reads t c =
 pub read_targets-loop-all-init : goal.read_targets-loop-all-init
 read_targets-loop-all-init t c =
     let k = leads_on (list.list_rest target_at target_depths EndsTarget rule.target_laws c.args.depth c.args.at _ _ c.in_ok-first.ensures.reads) (rule.list_part c.args.depth c.args.at) in
-    let e : c.push.new.self ≡ c.in_ok-first.first ∷ [] = c.in_ok-push.ensures.ok ∙ ap (λ w. w ++ c.in_ok-first.first ∷ []) c.new-all.ensures in
+    let e : c.in_ok-all.all ≡ c.in_ok-first.first ∷ [] = c.in_ok-all.ensures in
     record {
       took = λ es rest p. rw e (k.took es rest p);
       fails = k.fails;
@@ -79,7 +79,7 @@ read_targets-returns-in_err-target-in-Some-clause-reads t c =
 pub read_targets-loop-all-preserved : goal.read_targets-loop-all-preserved
 read_targets-loop-all-preserved t c =
     let k = list.more_next target_at target_depths EndsTarget rule.target_laws c.args.depth _ c.in_ok-first.ensures.shallow c.loop-all.rest _ c.in-Some.ensures.reads _ _ c.in_ok-target-in-Some.ensures.reads in
-    let e : c.push-in-Some.new.self ≡ c.loop-all.all ++ c.in_ok-target-in-Some.target ∷ [] = c.in_ok-push-in-Some.ensures.ok in
+    let e : c.push.new.self ≡ c.loop-all.all ++ c.in_ok-target-in-Some.target ∷ [] = c.in_ok-push-in-Some.ensures.ok in
     record {
       took = λ es rest p. rw (e, list.map_more) (c.loop-all.invariant.took (plain.target c.in_ok-target-in-Some.target ∷ es) rest (k.took es rest p));
       fails = λ e r. c.loop-all.invariant.fails e (k.fails e r);

@@ -174,8 +174,7 @@ pub read_conditional-loop-after-init : goal.read_conditional-loop-after-init
 read_conditional-loop-after-init t c =
     let l0 = rule_branch.conditional_parts c.args.depth (plain.place c.args.place) c.args.at in
     let l1 = after_part (rule_branch.branch_next c.args.depth (plain.place c.args.place)) l0 _ _ c.in_ok-first.ensures.reads in
-    let e : c.push.new.self ≡ c.in_ok-first.first ∷ [] =
-    ◌∙◌ {a = c.push.new.self} c.in_ok-push.ensures.ok (ap (λ w. w ++ c.in_ok-first.first ∷ []) c.new-branches.ensures) in
+    let e : c.in_ok-branches.branches ≡ c.in_ok-first.first ∷ [] = c.in_ok-branches.ensures in
     record {
       took = λ bs o rest p. rw e (l1.took (bs, o) rest p);
       fails = l1.fails;
@@ -205,7 +204,7 @@ read_conditional-loop-after-preserved t c =
     c.in-Some-find_key.ensures.reads) l0 in
     let l2 = after_part (rule_branch.branch_next c.args.depth (plain.place c.in-Some-find_key.place)) l1 _ _ c.in_ok-branch-in-Some-find_key.ensures.reads in
     let b = c.in_ok-branch-in-Some-find_key.branch in
-    let e : c.push-in-Some-find_key.new.self ≡ c.loop-after.branches ++ b ∷ [] = c.in_ok-push-in-Some-find_key.ensures.ok in
+    let e : c.push.new.self ≡ c.loop-after.branches ++ b ∷ [] = c.in_ok-push-in-Some-find_key.ensures.ok in
     record {
       took = λ bs o rest p. rw (e, view.branches_on-one)
           (c.loop-after.invariant.took (more_branch (plain.place b.place) (plain.expr b.condition) (plain.stmt b.body) bs) o rest
@@ -258,8 +257,7 @@ read_select-loop-after-init t c =
     let l0 = rule_arm.select_parts c.args.depth (plain.place c.args.place) c.args.wild c.args.at in
     let l1 = after_part (rule_arm.selector_next c.args.depth (plain.place c.args.place) c.args.wild) l0 _ _ c.in_ok-selector.ensures.reads in
     let l2 = after_part (rule_arm.arm_closed c.args.depth) l1 _ _ c.in_ok-first.ensures.reads in
-    let e : c.push.new.self ≡ c.in_ok-first.first ∷ [] =
-    ◌∙◌ {a = c.push.new.self} c.in_ok-push.ensures.ok (ap (λ w. w ++ c.in_ok-first.first ∷ []) c.new-arms.ensures) in
+    let e : c.in_ok-arms.arms ≡ c.in_ok-first.first ∷ [] = c.in_ok-arms.ensures in
     record {
       took = λ arms rest p. rw e (l2.took arms rest p);
       fails = l2.fails;
@@ -282,7 +280,7 @@ pub read_select-loop-after-preserved : goal.read_select-loop-after-preserved
 read_select-loop-after-preserved t c =
     let l0 = rule_arm.arm_part c.args.depth c.loop-after.rest c.in-None.ensures.reads in
     let l1 = after_part (rule_arm.arm_closed c.args.depth) l0 _ _ c.in_ok-arm-in-None.ensures.reads in
-    let e : c.push-in-None.new.self ≡ c.loop-after.arms ++ c.in_ok-arm-in-None.arm ∷ [] = c.in_ok-push-in-None.ensures.ok in
+    let e : c.push.new.self ≡ c.loop-after.arms ++ c.in_ok-arm-in-None.arm ∷ [] = c.in_ok-push-in-None.ensures.ok in
     record {
       took = λ arms rest p. rw (e, view.arms_on-one)
           (c.loop-after.invariant.took (with_arm (arm_of c.in_ok-arm-in-None.arm) arms) rest (l1.took arms rest p));
