@@ -3,8 +3,8 @@
 ghost use Rattle.std.specs.Prelude.{◌≡◌};
 ghost use Rattle.vl_tree.specs.Fault.{name_of, on_line};
 
-/// What is wrong with the text of a design, in the order in which a report prefers one kind to another at one place. A kind says what
-/// is wrong; `specs/Fault` has its name, and the definition of its phase says exactly where it stands.
+/// What is wrong with the text of a design, by phase. A kind says what is wrong; `specs/Fault` has its name, and the
+/// definition of its phase says exactly where it stands.
 #[derive(Clone, Copy, Debug, PartialEq, Eq)]
 pub enum FaultKind {
     /// Phase 1: a directive that isn't one, or not in its form.
@@ -25,7 +25,7 @@ pub enum FaultKind {
     BadToken,
     /// Phase 2: a number that isn't one.
     BadNumber,
-    /// Phase 2: a number of too many bits.
+    /// Phases 2, 5 and 6: a number, a vector or an expression of too many bits.
     TooWide,
     /// Phase 2: a string without its end.
     OpenString,
@@ -35,6 +35,84 @@ pub enum FaultKind {
     Syntax,
     /// Phase 3: a token deeper than 200.
     Deep,
+    /// Phase 4: a second module of a name.
+    DuplicateModule,
+    /// Phase 4: no one module that is the top.
+    NoTop,
+    /// Phase 4: an instance of a module that isn't there.
+    UnknownModule,
+    /// Phase 4: a bound parameter that isn't there, or too many or repeated binds.
+    UnknownParameter,
+    /// Phase 4: an instance inside 32 others.
+    TooDeep,
+    /// Phase 4: more than 4,096 instances.
+    TooManyInstances,
+    /// Phase 4: more than 4,096 turns of one generate loop.
+    TooManyTurns,
+    /// Phase 4: a port or a parameter in a generate block, or a generate loop whose variable isn't one genvar.
+    Misplaced,
+    /// Phases 4 and 6: an expression that has to be constant and isn't.
+    NotConstant,
+    /// Phase 5: a name that is declared twice in a scope.
+    Duplicate,
+    /// Phase 5: bounds that no vector or memory has.
+    BadRange,
+    /// Phase 5: a port without a direction, of disagreeing declarations, or connected wrongly.
+    BadPort,
+    /// Phase 5: a named port that isn't there.
+    UnknownPort,
+    /// Phase 5: more signals than a design may have.
+    TooManySignals,
+    /// Phase 5: more words of memories than a design may have.
+    TooManyWords,
+    /// Phase 5: more data inputs, or bits of them, than a design may have.
+    TooManyInputs,
+    /// Phase 6: a name that nothing in sight declares.
+    UnknownName,
+    /// Phase 6: a select that its object doesn't have, or a memory without a word's index.
+    BadSelect,
+    /// Phase 6: a replication or a select of no bits.
+    ZeroReplication,
+    /// Phase 6: a call of no function, or with another number of arguments.
+    BadCall,
+    /// Phase 6: an assignment to what can't be its target.
+    BadTarget,
+    /// Phase 6: a format that has a wrong item, or another number of arguments.
+    BadFormat,
+    /// Phase 7: `posedge` beside another event.
+    AsyncControl,
+    /// Phase 7: `negedge`.
+    NegativeEdge,
+    /// Phase 7: `=` in a clocked block, or `<=` elsewhere.
+    WrongAssign,
+    /// Phase 7: a loop variable that is used or assigned outside of its loop.
+    LoopVariable,
+    /// Phase 7: a bit of a combinational block that isn't assigned on every path, or is read before it is assigned.
+    Latch,
+    /// Phase 7: a function that calls itself.
+    Recursive,
+    /// Phase 7: a function that reads what isn't its own.
+    FunctionScope,
+    /// Phase 7: what no `initial` block may do.
+    BadInitial,
+    /// Phase 7: a task outside of clocked blocks.
+    TaskPlace,
+    /// Phase 7: more than 65,536 unrolled statements in a block.
+    Unrolled,
+    /// Phases 4 and 7: more than 4,194,304 expanded tokens.
+    Expanded,
+    /// Phase 8: a bit of two drivers, or a memory of two blocks.
+    ManyDrivers,
+    /// Phase 8: a variable that a clocked and a combinational block assign.
+    MixedKinds,
+    /// Phase 8: a clock that is no plain input of one bit.
+    BadClock,
+    /// Phase 8: a second clock of the top.
+    SecondClock,
+    /// Phase 8: a clock name that is read or driven otherwise.
+    ClockAsData,
+    /// Phase 9: a driven part that reads itself.
+    Loop,
 }
 
 impl FaultKind {
@@ -57,6 +135,45 @@ impl FaultKind {
             FaultKind::TooManyTokens => "TooManyTokens",
             FaultKind::Syntax => "Syntax",
             FaultKind::Deep => "Deep",
+            FaultKind::DuplicateModule => "DuplicateModule",
+            FaultKind::NoTop => "NoTop",
+            FaultKind::UnknownModule => "UnknownModule",
+            FaultKind::UnknownParameter => "UnknownParameter",
+            FaultKind::TooDeep => "TooDeep",
+            FaultKind::TooManyInstances => "TooManyInstances",
+            FaultKind::TooManyTurns => "TooManyTurns",
+            FaultKind::Misplaced => "Misplaced",
+            FaultKind::NotConstant => "NotConstant",
+            FaultKind::Duplicate => "Duplicate",
+            FaultKind::BadRange => "BadRange",
+            FaultKind::BadPort => "BadPort",
+            FaultKind::UnknownPort => "UnknownPort",
+            FaultKind::TooManySignals => "TooManySignals",
+            FaultKind::TooManyWords => "TooManyWords",
+            FaultKind::TooManyInputs => "TooManyInputs",
+            FaultKind::UnknownName => "UnknownName",
+            FaultKind::BadSelect => "BadSelect",
+            FaultKind::ZeroReplication => "ZeroReplication",
+            FaultKind::BadCall => "BadCall",
+            FaultKind::BadTarget => "BadTarget",
+            FaultKind::BadFormat => "BadFormat",
+            FaultKind::AsyncControl => "AsyncControl",
+            FaultKind::NegativeEdge => "NegativeEdge",
+            FaultKind::WrongAssign => "WrongAssign",
+            FaultKind::LoopVariable => "LoopVariable",
+            FaultKind::Latch => "Latch",
+            FaultKind::Recursive => "Recursive",
+            FaultKind::FunctionScope => "FunctionScope",
+            FaultKind::BadInitial => "BadInitial",
+            FaultKind::TaskPlace => "TaskPlace",
+            FaultKind::Unrolled => "Unrolled",
+            FaultKind::Expanded => "Expanded",
+            FaultKind::ManyDrivers => "ManyDrivers",
+            FaultKind::MixedKinds => "MixedKinds",
+            FaultKind::BadClock => "BadClock",
+            FaultKind::SecondClock => "SecondClock",
+            FaultKind::ClockAsData => "ClockAsData",
+            FaultKind::Loop => "Loop",
         }
     }
 }
