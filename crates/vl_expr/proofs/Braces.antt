@@ -2,7 +2,7 @@
 use Rattle.std.proofs.Common.{◌≡◌, ◌≤◌, ◌+◌, ℕ, List, [], ◌∷◌, ◌++◌, refl, sym, ◌∙◌, ap, subst, append_assoc, ◌⊎◌, inl, inr}
 use Rattle.vl_tree.specs.declared.token.Mark.TheVariants as m
 use Rattle.vl_tree.specs.Token as k
-use Rattle.vl_tree.specs.Syntax.{Place, Expr, number, read, call, system, group, concat, repeat, unary, chain, choose}
+use Rattle.vl_tree.specs.Syntax.{Place, Expr, concat, repeat}
 use Rattle.vl_tree.specs.Syntax.{Exprs, no_expr, more_expr}
 use Rattle.vl_tree.specs.Placed.{Placed, at}
 use Rattle.vl_tree.specs.Piece.{mark, ◌then◌}

@@ -10,10 +10,12 @@ ghost use Rattle.vl_read.specs.Reading.{Reads, Any};
 ghost use Rattle.vl_read.specs.Tokens.{Not};
 ghost use Rattle.vl_expr.specs.Ends.{Ends, EndsExpr, EndsList, EndsSelect};
 ghost use Rattle.vl_expr.specs.Readers.{ReadsLinks, ReadsNamed, ReadsMore, ReadsSelects};
+ghost use Rattle.vl_expr.specs.Readers.{ReadsAfter, ReadsSystem, ReadsUnary};
 ghost use Rattle.vl_expr.specs.Lists as list;
 
 use crate::operators::{Separator, Start, find_level, find_operator, find_separator, start_of};
 use crate::parts::{chosen, linked};
+use bit_ops::Unary;
 use dt_core::limits::MAX_DEPTH;
 use dt_core::place::Place;
 use dt_core::text::Text;
@@ -22,7 +24,7 @@ use std::alloc::Global;
 use vl_read::cursor::Cursor;
 use vl_read::fault::Fault;
 use vl_read::lists::{list_of, room_for};
-use vl_tree::expression::{Choice, Expr, Link, Name, Select, Selected};
+use vl_tree::expression::{Choice, Expr, Link, Name, Select, Selected, SystemFunction};
 use vl_tree::token::Mark;
 
 /// An expression, at this depth.
@@ -145,30 +147,76 @@ fn read_primary<'a>(alloc: Global, at: Cursor<'a>, depth: u32) -> Result<(Expr, 
     match start {
         Start::Number(literal) => Ok((Expr::Number(place, literal), rest)),
         Start::Name(text) => read_named(alloc, rest, depth, text, place),
-        Start::System(function) => {
-            let rest = rest.pass_mark(Mark::OpenParen)?;
-            let (operand, rest) = read_expr(alloc, rest, depth + 1)?;
-            let rest = rest.pass_mark(Mark::CloseParen)?;
-            let operand = Boxed::new(alloc, operand)?;
-            Ok((Expr::System(place, function, operand), rest))
-        }
-        Start::Paren => {
-            let (inner, rest) = read_expr(alloc, rest, depth + 1)?;
-            let rest = rest.pass_mark(Mark::CloseParen)?;
-            let inner = Boxed::new(alloc, inner)?;
-            Ok((Expr::Group(place, inner), rest))
-        }
+        Start::System(function) => read_system(alloc, rest, depth, place, function),
+        Start::Paren => read_group(alloc, rest, depth, place),
         Start::Brace => read_braces(alloc, rest, depth, place),
-        Start::Unary(operator) => {
-            let (operand, rest) = read_primary(alloc, rest, depth + 1)?;
-            let operand = Boxed::new(alloc, operand)?;
-            Ok((Expr::Unary(place, operator, operand), rest))
-        }
+        Start::Unary(operator) => read_unary(alloc, rest, depth, place, operator),
     }
+}
+
+// What comes after the name of a function of the language: its operand in parentheses. Each function clears the room of
+// all its trees when it is entered, so the rare kinds of primary stand in functions of their own.
+#[cycle(expression)]
+#[inline(never)]
+fn read_system<'a>(
+    alloc: Global,
+    at: Cursor<'a>,
+    depth: u32,
+    place: Place,
+    function: SystemFunction,
+) -> Result<(Expr, Cursor<'a>), Fault>
+    requires low { depth ≤ MAX_DEPTH }
+    ensures reads { ReadsSystem (view.system_function function) (view.place place) depth at.entry result }
+    ensures shorter { IfOk result (λ x. length x.1 < length at.entry) }
+{
+    let rest = at.pass_mark(Mark::OpenParen)?;
+    let (operand, rest) = read_expr(alloc, rest, depth + 1)?;
+    let rest = rest.pass_mark(Mark::CloseParen)?;
+    let operand = Boxed::new(alloc, operand)?;
+    Ok((Expr::System(place, function, operand), rest))
+}
+
+// What comes after `(`: an expression and `)`.
+#[cycle(expression)]
+#[inline(never)]
+fn read_group<'a>(
+    alloc: Global,
+    at: Cursor<'a>,
+    depth: u32,
+    place: Place,
+) -> Result<(Expr, Cursor<'a>), Fault>
+    requires low { depth ≤ MAX_DEPTH }
+    ensures reads { ReadsAfter (k.mark m.OpenParen) (view.place place) depth at.entry result }
+    ensures shorter { IfOk result (λ x. length x.1 < length at.entry) }
+{
+    let (inner, rest) = read_expr(alloc, at, depth + 1)?;
+    let rest = rest.pass_mark(Mark::CloseParen)?;
+    let inner = Boxed::new(alloc, inner)?;
+    Ok((Expr::Group(place, inner), rest))
+}
+
+// What comes after an operator before its operand.
+#[cycle(expression)]
+#[inline(never)]
+fn read_unary<'a>(
+    alloc: Global,
+    at: Cursor<'a>,
+    depth: u32,
+    place: Place,
+    operator: Unary,
+) -> Result<(Expr, Cursor<'a>), Fault>
+    requires low { depth ≤ MAX_DEPTH }
+    ensures reads { ReadsUnary operator (view.place place) depth at.entry result }
+    ensures shorter { IfOk result (λ x. length x.1 < length at.entry) }
+{
+    let (operand, rest) = read_primary(alloc, at, depth + 1)?;
+    let operand = Boxed::new(alloc, operand)?;
+    Ok((Expr::Unary(place, operator, operand), rest))
 }
 
 // What comes after a name: arguments in parentheses, or selects.
 #[cycle(expression)]
+#[inline(never)]
 fn read_named<'a>(
     alloc: Global,
     at: Cursor<'a>,

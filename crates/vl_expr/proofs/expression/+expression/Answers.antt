@@ -1,4 +1,4 @@
-use Rattle.std.proofs.Common.{rules, ◌≡◌, ◌-◌, ◌+◌, ◌∷◌, [], ◌++◌, arith, subst, ap, refl, ◌∙◌}
+use Rattle.std.proofs.Common.{◌≡◌, ◌-◌, ◌+◌, ◌∷◌, [], ◌++◌, arith, subst, refl, ◌∙◌}
 use Rattle.std.proofs.lemmas.Result.{err_from_is_err_and}
 use Rattle.std.specs.Prelude.{Some}
 use Rattle.vl_tree.specs.Syntax.{no_expr, no_link, more_link, no_choice, more_choice, no_select, more_select, more_expr}
@@ -346,51 +346,71 @@ read_primary-returns-in-Brace-clause-reads t c =
     leads_reads (rule.braces_part c.args.depth (omega (arith, c.requires.low, c.if-depth-gt-MAX_DEPTH.false)) (plain.place c.in-Some.place) c.args.at _ (rule.begins_brace (coded_kind c.in-Some.token.now.kind) (plain.place c.in-Some.place) c.args.at _ c.in-Some.ensures c.in-Some-start_of.start c.in-Some-start_of.ensures c.in-Brace.is)) plain.expr plain.expr (λ x. refl)
     c.read_braces.result c.read_braces.ensures.reads
 
-pub read_primary-returns-in_err-rest-in-System-clause-reads : goal.read_primary-returns-in_err-rest-in-System-clause-reads
-read_primary-returns-in_err-rest-in-System-clause-reads t c =
+pub read_primary-returns-in-System-clause-reads : goal.read_primary-returns-in-System-clause-reads
+read_primary-returns-in-System-clause-reads t c =
+    rw (rule.begins_system (coded_kind c.in-Some.token.now.kind) (plain.place c.in-Some.place) c.args.at _ c.in-Some.ensures c.in-Some-start_of.start c.in-Some-start_of.ensures c.in-System.function c.in-System.is)
+    c.read_system.ensures.reads
+
+pub read_primary-returns-in-Paren-clause-reads : goal.read_primary-returns-in-Paren-clause-reads
+read_primary-returns-in-Paren-clause-reads t c =
+    rw (rule.begins_paren (coded_kind c.in-Some.token.now.kind) (plain.place c.in-Some.place) c.args.at _ c.in-Some.ensures c.in-Some-start_of.start c.in-Some-start_of.ensures c.in-Paren.is)
+    c.read_group.ensures.reads
+
+pub read_primary-returns-in-Unary-clause-reads : goal.read_primary-returns-in-Unary-clause-reads
+read_primary-returns-in-Unary-clause-reads t c =
+    let o = rule.begins_unary (coded_kind c.in-Some.token.now.kind) (plain.place c.in-Some.place) c.args.at _ c.in-Some.ensures c.in-Some-start_of.start c.in-Some-start_of.ensures c.in-Unary.operator c.in-Unary.is in
+    rw o.2 (c.read_unary.ensures.reads o.0 o.1)
+
+-- ---- functions of the language
+
+pub read_system-returns-in_err-rest-clause-reads : goal.read_system-returns-in_err-rest-clause-reads
+read_system-returns-in_err-rest-clause-reads t c =
     let p = err_from_is_err_and c.from_residual.result c.from_residual.ensures.1 in
-    rw (p.1, p.2) (rule.system_fails_0 c.args.depth (omega (arith, c.requires.low, c.if-depth-gt-MAX_DEPTH.false)) (plain.place c.in-Some.place) c.args.at _ (plain.system_function c.in-System.function) (rule.begins_system (coded_kind c.in-Some.token.now.kind) (plain.place c.in-Some.place) c.args.at _ c.in-Some.ensures c.in-Some-start_of.start c.in-Some-start_of.ensures c.in-System.function c.in-System.is) c.in_err-rest-in-System.field-0.0 (c.in_err-rest-in-System.ensures.reads c.args.depth))
+    rw (p.1, p.2) (rule.system_fails_0 c.args.depth c.requires.low (plain.place c.args.place) _ c.args.at (plain.system_function c.args.function) refl c.in_err-rest.field-0.0 (c.in_err-rest.ensures.reads c.args.depth))
 
-pub read_primary-returns-in_err-operand-in-System-clause-reads : goal.read_primary-returns-in_err-operand-in-System-clause-reads
-read_primary-returns-in_err-operand-in-System-clause-reads t c =
-    let p = err_from_is_err_and c.from_residual-in_err-operand-in-System.result c.from_residual-in_err-operand-in-System.ensures.1 in
-    rw (p.1, p.2) (rule.system_fails_1 c.args.depth (omega (arith, c.requires.low, c.if-depth-gt-MAX_DEPTH.false)) (plain.place c.in-Some.place) c.args.at _ (plain.system_function c.in-System.function) (rule.begins_system (coded_kind c.in-Some.token.now.kind) (plain.place c.in-Some.place) c.args.at _ c.in-Some.ensures c.in-Some-start_of.start c.in-Some-start_of.ensures c.in-System.function c.in-System.is) _ c.in_ok-rest-in-System.ensures.reads c.in_err-operand-in-System.field-0.0 c.in_err-operand-in-System.ensures.reads)
+pub read_system-returns-in_err-operand-clause-reads : goal.read_system-returns-in_err-operand-clause-reads
+read_system-returns-in_err-operand-clause-reads t c =
+    let p = err_from_is_err_and c.from_residual-in_err-operand.result c.from_residual-in_err-operand.ensures.1 in
+    rw (p.1, p.2) (rule.system_fails_1 c.args.depth c.requires.low (plain.place c.args.place) _ c.args.at (plain.system_function c.args.function) refl _ c.in_ok-rest.ensures.reads c.in_err-operand.field-0.0 c.in_err-operand.ensures.reads)
 
-pub read_primary-returns-in_err-rest-in-System-2-clause-reads : goal.read_primary-returns-in_err-rest-in-System-2-clause-reads
-read_primary-returns-in_err-rest-in-System-2-clause-reads t c =
-    let p = err_from_is_err_and c.from_residual-in_err-rest-in-System-2.result c.from_residual-in_err-rest-in-System-2.ensures.1 in
-    rw (p.1, p.2) (rule.system_fails_2 c.args.depth (omega (arith, c.requires.low, c.if-depth-gt-MAX_DEPTH.false)) (plain.place c.in-Some.place) c.args.at _ (plain.system_function c.in-System.function) (rule.begins_system (coded_kind c.in-Some.token.now.kind) (plain.place c.in-Some.place) c.args.at _ c.in-Some.ensures c.in-Some-start_of.start c.in-Some-start_of.ensures c.in-System.function c.in-System.is) _ c.in_ok-rest-in-System.ensures.reads _ _ c.in_ok-operand-in-System.ensures.reads c.in_err-rest-in-System-2.field-0.0 (c.in_err-rest-in-System-2.ensures.reads c.args.depth))
+pub read_system-returns-in_err-rest-2-clause-reads : goal.read_system-returns-in_err-rest-2-clause-reads
+read_system-returns-in_err-rest-2-clause-reads t c =
+    let p = err_from_is_err_and c.from_residual-in_err-rest-2.result c.from_residual-in_err-rest-2.ensures.1 in
+    rw (p.1, p.2) (rule.system_fails_2 c.args.depth c.requires.low (plain.place c.args.place) _ c.args.at (plain.system_function c.args.function) refl _ c.in_ok-rest.ensures.reads _ _ c.in_ok-operand.ensures.reads c.in_err-rest-2.field-0.0 (c.in_err-rest-2.ensures.reads c.args.depth))
 
-pub read_primary-returns-in_ok-operand-in-System-2-clause-reads : goal.read_primary-returns-in_ok-operand-in-System-2-clause-reads
-read_primary-returns-in_ok-operand-in-System-2-clause-reads t c =
-    let s : c.in_ok-operand-in-System-2.operand ≡ c.in_ok-operand-in-System.operand = c.in_ok-operand-in-System-2.ensures in
-    rw (view.expr-system c.in-Some.place c.in-System.function c.in_ok-operand-in-System-2.operand, s)
-    (rule.system_took c.args.depth (omega (arith, c.requires.low, c.if-depth-gt-MAX_DEPTH.false)) (plain.place c.in-Some.place) c.args.at _ (plain.system_function c.in-System.function) (rule.begins_system (coded_kind c.in-Some.token.now.kind) (plain.place c.in-Some.place) c.args.at _ c.in-Some.ensures c.in-Some-start_of.start c.in-Some-start_of.ensures c.in-System.function c.in-System.is) _ c.in_ok-rest-in-System.ensures.reads _ _ c.in_ok-operand-in-System.ensures.reads _ c.in_ok-rest-in-System-2.ensures.reads)
+pub read_system-returns-clause-reads : goal.read_system-returns-clause-reads
+read_system-returns-clause-reads t c =
+    let s : c.in_ok-operand-2.operand ≡ c.in_ok-operand.operand = c.in_ok-operand-2.ensures in
+    rw (view.expr-system c.args.place c.args.function c.in_ok-operand-2.operand, s)
+    (rule.system_took c.args.depth c.requires.low (plain.place c.args.place) _ c.args.at (plain.system_function c.args.function) refl _ c.in_ok-rest.ensures.reads _ _ c.in_ok-operand.ensures.reads _ c.in_ok-rest-2.ensures.reads)
 
-pub read_primary-returns-in_err-inner-in-Paren-clause-reads : goal.read_primary-returns-in_err-inner-in-Paren-clause-reads
-read_primary-returns-in_err-inner-in-Paren-clause-reads t c =
-    let p = err_from_is_err_and c.from_residual-in_err-inner-in-Paren.result c.from_residual-in_err-inner-in-Paren.ensures.1 in
-    rw (p.1, p.2) (rule.group_fails_0 c.args.depth (omega (arith, c.requires.low, c.if-depth-gt-MAX_DEPTH.false)) (plain.place c.in-Some.place) c.args.at _ (rule.begins_paren (coded_kind c.in-Some.token.now.kind) (plain.place c.in-Some.place) c.args.at _ c.in-Some.ensures c.in-Some-start_of.start c.in-Some-start_of.ensures c.in-Paren.is) c.in_err-inner-in-Paren.field-0.0 c.in_err-inner-in-Paren.ensures.reads)
+-- ---- after an opening parenthesis
 
-pub read_primary-returns-in_err-rest-in-Paren-clause-reads : goal.read_primary-returns-in_err-rest-in-Paren-clause-reads
-read_primary-returns-in_err-rest-in-Paren-clause-reads t c =
-    let p = err_from_is_err_and c.from_residual-in_err-rest-in-Paren.result c.from_residual-in_err-rest-in-Paren.ensures.1 in
-    rw (p.1, p.2) (rule.group_fails_1 c.args.depth (omega (arith, c.requires.low, c.if-depth-gt-MAX_DEPTH.false)) (plain.place c.in-Some.place) c.args.at _ (rule.begins_paren (coded_kind c.in-Some.token.now.kind) (plain.place c.in-Some.place) c.args.at _ c.in-Some.ensures c.in-Some-start_of.start c.in-Some-start_of.ensures c.in-Paren.is) _ _ c.in_ok-inner-in-Paren.ensures.reads c.in_err-rest-in-Paren.field-0.0 (c.in_err-rest-in-Paren.ensures.reads c.args.depth))
+pub read_group-returns-in_err-inner-clause-reads : goal.read_group-returns-in_err-inner-clause-reads
+read_group-returns-in_err-inner-clause-reads t c =
+    let p = err_from_is_err_and c.from_residual.result c.from_residual.ensures.1 in
+    rw (p.1, p.2) (rule.group_fails_0 c.args.depth c.requires.low (plain.place c.args.place) _ c.args.at refl c.in_err-inner.field-0.0 c.in_err-inner.ensures.reads)
 
-pub read_primary-returns-in_ok-inner-in-Paren-2-clause-reads : goal.read_primary-returns-in_ok-inner-in-Paren-2-clause-reads
-read_primary-returns-in_ok-inner-in-Paren-2-clause-reads t c =
-    let s : c.in_ok-inner-in-Paren-2.inner ≡ c.in_ok-inner-in-Paren.inner = c.in_ok-inner-in-Paren-2.ensures in
-    rw (view.expr-group c.in-Some.place c.in_ok-inner-in-Paren-2.inner, s)
-    (rule.group_took c.args.depth (omega (arith, c.requires.low, c.if-depth-gt-MAX_DEPTH.false)) (plain.place c.in-Some.place) c.args.at _ (rule.begins_paren (coded_kind c.in-Some.token.now.kind) (plain.place c.in-Some.place) c.args.at _ c.in-Some.ensures c.in-Some-start_of.start c.in-Some-start_of.ensures c.in-Paren.is) _ _ c.in_ok-inner-in-Paren.ensures.reads _ c.in_ok-rest-in-Paren.ensures.reads)
+pub read_group-returns-in_err-rest-clause-reads : goal.read_group-returns-in_err-rest-clause-reads
+read_group-returns-in_err-rest-clause-reads t c =
+    let p = err_from_is_err_and c.from_residual-in_err-rest.result c.from_residual-in_err-rest.ensures.1 in
+    rw (p.1, p.2) (rule.group_fails_1 c.args.depth c.requires.low (plain.place c.args.place) _ c.args.at refl _ _ c.in_ok-inner.ensures.reads c.in_err-rest.field-0.0 (c.in_err-rest.ensures.reads c.args.depth))
 
-pub read_primary-returns-in_err-operand-in-Unary-clause-reads : goal.read_primary-returns-in_err-operand-in-Unary-clause-reads
-read_primary-returns-in_err-operand-in-Unary-clause-reads t c =
-    let p = err_from_is_err_and c.from_residual-in_err-operand-in-Unary.result c.from_residual-in_err-operand-in-Unary.ensures.1 in
-    rw (p.1, p.2) (let o = (rule.begins_unary (coded_kind c.in-Some.token.now.kind) (plain.place c.in-Some.place) c.args.at _ c.in-Some.ensures c.in-Some-start_of.start c.in-Some-start_of.ensures c.in-Unary.operator c.in-Unary.is) in (rule.unary_part c.args.depth (omega (arith, c.requires.low, c.if-depth-gt-MAX_DEPTH.false)) (plain.place c.in-Some.place) c.args.at _ o.0 c.in-Unary.operator o.1 o.2).fails c.in_err-operand-in-Unary.field-0.0 c.in_err-operand-in-Unary.ensures.reads)
+pub read_group-returns-clause-reads : goal.read_group-returns-clause-reads
+read_group-returns-clause-reads t c =
+    let s : c.in_ok-inner-2.inner ≡ c.in_ok-inner.inner = c.in_ok-inner-2.ensures in
+    rw (view.expr-group c.args.place c.in_ok-inner-2.inner, s)
+    (rule.group_took c.args.depth c.requires.low (plain.place c.args.place) _ c.args.at refl _ _ c.in_ok-inner.ensures.reads _ c.in_ok-rest.ensures.reads)
 
-pub read_primary-returns-in_ok-operand-in-Unary-2-clause-reads : goal.read_primary-returns-in_ok-operand-in-Unary-2-clause-reads
-read_primary-returns-in_ok-operand-in-Unary-2-clause-reads t c =
-    let s : c.in_ok-operand-in-Unary-2.operand ≡ c.in_ok-operand-in-Unary.operand = c.in_ok-operand-in-Unary-2.ensures in
-    let o = (rule.begins_unary (coded_kind c.in-Some.token.now.kind) (plain.place c.in-Some.place) c.args.at _ c.in-Some.ensures c.in-Some-start_of.start c.in-Some-start_of.ensures c.in-Unary.operator c.in-Unary.is) in
-    rw (view.expr-unary c.in-Some.place c.in-Unary.operator c.in_ok-operand-in-Unary-2.operand, s)
-    ((rule.unary_part c.args.depth (omega (arith, c.requires.low, c.if-depth-gt-MAX_DEPTH.false)) (plain.place c.in-Some.place) c.args.at _ o.0 c.in-Unary.operator o.1 o.2).took _ _ c.in_ok-operand-in-Unary.ensures.reads)
+-- ---- after an operator before its operand
+
+pub read_unary-returns-in_err-operand-clause-reads : goal.read_unary-returns-in_err-operand-clause-reads
+read_unary-returns-in_err-operand-clause-reads t c = λ b e.
+    let p = err_from_is_err_and c.from_residual.result c.from_residual.ensures.1 in
+    rw (p.1, p.2) ((rule.unary_part c.args.depth c.requires.low (plain.place c.args.place) _ c.args.at b c.args.operator e refl).fails c.in_err-operand.field-0.0 c.in_err-operand.ensures.reads)
+
+pub read_unary-returns-clause-reads : goal.read_unary-returns-clause-reads
+read_unary-returns-clause-reads t c = λ b e.
+    let s : c.in_ok-operand-2.operand ≡ c.in_ok-operand.operand = c.in_ok-operand-2.ensures in
+    rw (view.expr-unary c.args.place c.args.operator c.in_ok-operand-2.operand, s)
+    ((rule.unary_part c.args.depth c.requires.low (plain.place c.args.place) _ c.args.at b c.args.operator e refl).took _ _ c.in_ok-operand.ensures.reads)

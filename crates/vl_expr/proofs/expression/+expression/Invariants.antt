@@ -10,7 +10,7 @@ use Rattle.vl_read.specs.declared.fault.Fault.{Fault}
 use Rattle.vl_read.specs.Reading.{Took, Refuses}
 use Rattle.vl_read.specs.Tokens.{Not}
 use Rattle.vl_expr.specs.Ends.{Ends, EndsExpr, EndsList}
-use Rattle.vl_expr.specs.Lists.{tail_at, tail_depths, choices_on, links_on, linked, exprs_on, list_after, list_after_depths, selects_on}
+use Rattle.vl_expr.specs.Lists.{tail_at, tail_depths, choices_on, links_on, exprs_on, list_after, list_after_depths, selects_on}
 use Rattle.vl_expr.proofs.expression.+expression.Given as goal
 
 abbrev pub decreases-read_primary : goal.decreases-read_primary
@@ -18,6 +18,15 @@ decreases-read_primary l = 16 * length l.at
 
 abbrev pub decreases-read_named : goal.decreases-read_named
 decreases-read_named l = 16 * length l.at + 2
+
+abbrev pub decreases-read_system : goal.decreases-read_system
+decreases-read_system l = 16 * length l.at + 2
+
+abbrev pub decreases-read_group : goal.decreases-read_group
+decreases-read_group l = 16 * length l.at + 13
+
+abbrev pub decreases-read_unary : goal.decreases-read_unary
+decreases-read_unary l = 16 * length l.at + 1
 
 abbrev pub decreases-read_selects : goal.decreases-read_selects
 decreases-read_selects l = 16 * length l.at + 1
