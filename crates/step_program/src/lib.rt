@@ -23,7 +23,7 @@ mod numbers;
 mod operands;
 pub mod placement;
 pub mod program;
-mod rare;
+pub mod rare;
 mod rename;
 mod runs;
 mod schedule;

@@ -13,9 +13,9 @@ use bit_ops::{binary, concat, cut_to, extend, insert, low, select, unary};
 use dt_core::bits::Bits;
 use dt_core::limits::MAX_WIDTH;
 
-// A whole number: from 0 up, or so many below -1.
+/// A whole number: from 0 up, or so many below -1.
 #[derive(Clone, Copy)]
-enum Whole {
+pub enum Whole {
     Up(u128),
     Below(u128),
 }
@@ -57,8 +57,8 @@ fn ones(width: u32) -> u128
     u128::MAX >> (MAX_WIDTH - width)
 }
 
-// The whole number that bits stand for.
-fn read(bits: Bits, signed: bool) -> Whole
+/// The whole number that bits stand for.
+pub fn read(bits: Bits, signed: bool) -> Whole
     ensures { running.whole_of result ≡ ops.integer signed bits.width bits.value }
 {
     let value = bits.value();
@@ -102,8 +102,8 @@ fn selected(of: Bits, place: Whole, width: u32) -> Bits
     }
 }
 
-// The bits with those of another from a place upward.
-fn inserted(of: Bits, place: Whole, part: Bits) -> Bits
+/// The bits with those of another from a place upward; what falls outside is lost.
+pub fn inserted(of: Bits, place: Whole, part: Bits) -> Bits
     ensures width { result.width ≡ of.width }
     ensures value { result.value ≡ ops.insert of.width (running.whole_of place) part.width part.value of.value }
 {

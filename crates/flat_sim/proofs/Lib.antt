@@ -1,0 +1,13 @@
+pub mod Puts
+pub mod Words
+pub mod Fires
+pub mod Settles
+pub mod InPlace
+pub mod Told
+pub mod Loops
+pub mod Machines
+pub mod Ran
+pub mod Starts
+pub mod Taken
+pub mod Advances
+pub mod Parts

@@ -1,0 +1,21 @@
+//! The simulator: a numbered design run one cycle after another, as a compiled program.
+//!
+//! Below: `dt_core`, `bit_ops`, `netlist`, `step_program`, `net_compile`, `message_text`. Above: what runs a design over
+//! rows.
+//! Promise: a cycle settles to the one valuation of `FlatSettles` of `netlist/specs/Run`; the next state is `flat_next`,
+//! what fires is `flat_fired`, and a signal has its value in that valuation. A settle counts one step.
+//! How: the given slots of the design's program hold the state's registers and the row, the words of all memories stand
+//! beside them. What is called once a cycle takes no memory and copies no memory.
+//! Not said: how long a cycle takes; that memory is enough.
+#![tactic(auto)]
+
+mod commits;
+mod events;
+mod given;
+mod kept;
+mod nodes;
+mod signals;
+pub mod sim;
+pub mod state;
+pub mod steps;
+mod writes;

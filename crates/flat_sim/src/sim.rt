@@ -1,0 +1,248 @@
+//! The simulator: a design, the slots of its program, and the words of its memories.
+
+ghost use Rattle.std.specs.Prelude.{◌≡◌, ◌+◌, ◌-◌, ◌^◌, ◌<◌, length, map, slice_get, slice_index, IfOk, IsSome, IsSomeAnd, Some, None};
+ghost use Rattle.netlist.specs.Order.{IsOrder};
+ghost use Rattle.netlist.specs.Run as run;
+ghost use Rattle.netlist.specs.Values.{node_values};
+ghost use Rattle.step_program.specs.Values.{contents};
+ghost use Rattle.net_compile.specs.Cycle.{RowFits};
+ghost use Rattle.flat_sim.specs.Kept as kept;
+ghost use Rattle.flat_sim.specs.States as states;
+ghost use Rattle.flat_sim.specs.Writes.{has_some};
+
+use crate::commits::{Commit, initial_values, take_next};
+use crate::events::{all_fired, some_fires};
+use crate::given::{first_slots, later_slots, put_all, read_all};
+use crate::kept::{first_words, state_words, words_of};
+use crate::nodes::Nodes;
+use crate::signals::{own_value, with_driven, with_registers};
+use crate::state::FlatState;
+use crate::steps::Steps;
+use crate::writes::write_memories;
+use dt_core::bits::Bits;
+use dt_core::fault::NoMemory;
+use message_text::telling::Fired;
+use net_compile::compile;
+use net_compile::compiled::Compiled;
+use netlist::flat::Flat;
+use netlist::laws::{settles_law, values_law};
+use std::alloc::Global;
+use std::marker::Model;
+use std::sync::ledger::Ledger;
+use step_program::words::{MemoryWords, SlotValues};
+
+/// A design that runs: its program, what stands in the program's slots, the words of all memories, how the register parts
+/// take their next values, the cycle, and whether it has settled.
+#[derive(Drop)]
+pub struct Sim<'a> {
+    flat: &'a Flat,
+    compiled: Compiled,
+    slots: SlotValues,
+    words: Vec<MemoryWords>,
+    commit: Commit,
+    cycle: u64,
+    settled: bool,
+}
+
+impl<'a> Model for Sim<'a> {
+    ghost use Rattle.flat_sim.specs.Moment.{Moment};
+
+    ghost Value = { Moment };
+
+    ghost use Rattle.flat_sim.specs.Inside.{moment_of, IsSound};
+
+    ghost view = { moment_of };
+
+    ghost invariant = { IsSound };
+}
+
+impl<'a> Sim<'a> {
+    /// The design in its first cycle, 0. The order is one of its driven parts.
+    pub fn start(alloc: Global, flat: &'a Flat, order: &[u32]) -> Result<Sim<'a>, NoMemory>
+        requires { IsOrder flat.now order.now }
+        ensures { IfOk result (λ s. s
+            ≡ record { flat = flat.now; cycle = 0; state = run.flat_start flat.now; values = None }) }
+    {
+        let registers = initial_values(alloc, flat.registers())?;
+        let words = first_words(alloc, flat.memories())?;
+        Sim::with(alloc, flat, order, &registers, words, 0)
+    }
+
+    /// The design in a state of it and a cycle, which hasn't settled. The order is one of its driven parts.
+    pub fn at(
+        alloc: Global,
+        flat: &'a Flat,
+        order: &[u32],
+        state: &FlatState,
+        cycle: u64,
+    ) -> Result<Sim<'a>, NoMemory>
+        requires order { IsOrder flat.now order.now }
+        requires state { states.IsStateOf flat.now state.now }
+        ensures { IfOk result (λ s. s ≡ record { flat = flat.now; cycle = cycle; state = state.now; values = None }) }
+    {
+        let words = words_of(alloc, flat.memories(), &state.memories)?;
+        Sim::with(alloc, flat, order, &state.registers, words, cycle)
+    }
+
+    // The design with these values of its register parts and these words of all its memories.
+    fn with(
+        alloc: Global,
+        flat: &'a Flat,
+        order: &[u32],
+        registers: &[u128],
+        words: Vec<MemoryWords>,
+        cycle: u64,
+    ) -> Result<Sim<'a>, NoMemory>
+        requires order { IsOrder flat.now order.now }
+        requires registers { states.RegistersFit flat.now.registers registers.now }
+        requires words { kept.AllKept flat.now.memories words.items }
+        ensures { IfOk result (λ s. s ≡ record {
+          flat = flat.now;
+          cycle = cycle;
+          state = record {
+            registers = registers.now;
+            memories = kept.state_words flat.now.memories (map contents words.items);
+          };
+          values = None;
+        }) }
+    {
+        let compiled = compile(alloc, flat, order)?;
+        let mut slots = compiled.program().start(alloc)?;
+        let parts = flat.registers();
+        let given = first_slots(compiled.given(), parts.len());
+        put_all(&mut slots, given, registers);
+        let commit = Commit::of(alloc, given, parts, compiled.nodes())?;
+        Ok(Sim {
+            flat,
+            compiled,
+            slots,
+            words,
+            commit,
+            cycle,
+            settled: false,
+        })
+    }
+
+    // The values of the nodes.
+    fn nodes(&self) -> Nodes<'_>
+        requires { IsSome self.now.values }
+        ensures flat { result.flat ≡ self.now.flat }
+        ensures numbers { IsSomeAnd self.now.values (λ v. result.numbers ≡ node_values self.now.flat v) }
+    {
+        Nodes {
+            flat: self.flat,
+            slots: self.compiled.nodes(),
+            values: &self.slots,
+        }
+    }
+
+    /// Settles the cycle with a row, one number for each data input in the order of the ports. It counts one step and
+    /// takes no memory.
+    pub fn settle<L: Ledger>(&mut self, row: &[u128], steps: &mut Steps<L>)
+        requires count { length row.now ≡ length self.old.flat.inputs }
+        requires fits { RowFits self.old.flat row.now }
+        ensures flat { self.new.flat ≡ self.old.flat }
+        ensures cycle { self.new.cycle ≡ self.old.cycle }
+        ensures state { self.new.state ≡ self.old.state }
+        ensures values { IsSomeAnd self.new.values (run.FlatSettles self.old.flat self.old.state row.now) }
+        ensures steps { steps.new ≡ steps.old + 1 }
+    {
+        steps.tick();
+        self.settle_row(row);
+    }
+
+    // Settles the cycle with a row.
+    fn settle_row(&mut self, row: &[u128])
+        requires count { length row.now ≡ length self.old.flat.inputs }
+        requires fits { RowFits self.old.flat row.now }
+        ensures flat { self.new.flat ≡ self.old.flat }
+        ensures cycle { self.new.cycle ≡ self.old.cycle }
+        ensures state { self.new.state ≡ self.old.state }
+        ensures values { IsSomeAnd self.new.values (run.FlatSettles self.old.flat self.old.state row.now) }
+    {
+        settles_law();
+        values_law();
+        let inputs = later_slots(self.compiled.given(), self.flat.registers().len());
+        put_all(&mut self.slots, inputs, row);
+        self.compiled.program().run(&self.words, &mut self.slots);
+        self.settled = true;
+    }
+
+    /// Whether an assertion fires. It takes no memory.
+    pub fn fires(&self) -> bool
+        requires { IsSome self.now.values }
+        ensures { IsSomeAnd self.now.values (λ v. result ≡ has_some (run.flat_fired self.now.flat v)) }
+    {
+        some_fires(&self.nodes())
+    }
+
+    /// The assertions that fire, in order, with their messages.
+    pub fn fired(&self, alloc: Global) -> Result<Vec<Fired>, NoMemory>
+        requires { IsSome self.now.values }
+        ensures { IfOk result (λ fired. IsSomeAnd self.now.values
+            (λ v. fired.items ≡ run.flat_fired self.now.flat v)) }
+    {
+        all_fired(alloc, &self.nodes())
+    }
+
+    /// The value of a signal. It takes no memory.
+    pub fn value(&self, signal: u32) -> Bits
+        requires settled { IsSome self.now.values }
+        requires signal { signal < length self.now.flat.signals }
+        ensures width { IsSomeAnd (slice_get self.now.flat.signals signal) (λ x. result.width ≡ x.width) }
+        ensures value { IsSomeAnd self.now.values (λ v. result.value ≡ slice_index v.signals signal) }
+    {
+        let parts = self.flat.registers();
+        let given = first_slots(self.compiled.given(), parts.len());
+        let inputs = later_slots(self.compiled.given(), parts.len());
+        let own = own_value(&self.flat.signals()[signal as usize], inputs, &self.slots);
+        let value = with_registers(own, signal, parts, given, &self.slots);
+        with_driven(value, signal, self.flat.driven(), &self.nodes())
+    }
+
+    /// To the next cycle and its state. It takes no memory.
+    pub fn advance(&mut self)
+        requires settled { IsSome self.old.values }
+        requires cycle { self.old.cycle < 2 ^ 64 - 1 }
+        ensures flat { self.new.flat ≡ self.old.flat }
+        ensures cycle { self.new.cycle ≡ self.old.cycle + 1 }
+        ensures state { IsSomeAnd self.old.values
+            (λ v. self.new.state ≡ run.flat_next self.old.flat self.old.state v) }
+        ensures values { self.new.values ≡ None }
+    {
+        let nodes = Nodes {
+            flat: self.flat,
+            slots: self.compiled.nodes(),
+            values: &self.slots,
+        };
+        write_memories(&nodes, &mut self.words);
+        take_next(self.flat, &self.compiled, &mut self.commit, &mut self.slots);
+        self.settled = false;
+        self.cycle += 1;
+    }
+
+    /// The design that runs.
+    pub fn flat(&self) -> &'a Flat
+        ensures { result.now ≡ self.now.flat }
+    {
+        self.flat
+    }
+
+    /// The cycle, from 0.
+    pub fn cycle(&self) -> u64
+        ensures { result ≡ self.now.cycle }
+    {
+        self.cycle
+    }
+
+    /// The state of the cycle.
+    pub fn state(&self, alloc: Global) -> Result<FlatState, NoMemory>
+        ensures { IfOk result (λ s. s ≡ self.now.state) }
+    {
+        let given = first_slots(self.compiled.given(), self.flat.registers().len());
+        Ok(FlatState {
+            registers: read_all(alloc, &self.slots, given)?,
+            memories: state_words(alloc, self.flat.memories(), &self.words)?,
+        })
+    }
+}
