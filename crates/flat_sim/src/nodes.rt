@@ -63,6 +63,10 @@ impl<'a> Nodes<'a> {
         requires { index.node < length self.now.flat.nodes }
         ensures { whole_of result ≡ index_at self.now.flat.nodes self.now.numbers index }
     {
-        read(self.bits(index.node), index.signed)
+        if index.signed {
+            read(self.bits(index.node), true)
+        } else {
+            Whole::Up(self.number(index.node))
+        }
     }
 }

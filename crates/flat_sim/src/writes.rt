@@ -1,6 +1,6 @@
 //! Writes to memories, in place.
 
-ghost use Rattle.std.specs.Prelude.{◌≡◌, ◌≤◌, ◌<◌, length, map, slice_index, slice_set, pos, IfSome, IfNone, ◌-ℤ◌};
+ghost use Rattle.std.specs.Prelude.{◌≡◌, ◌≤◌, ◌<◌, ◌^◌, length, map, slice_index, slice_set, pos, IfSome, IfNone, ◌-ℤ◌};
 ghost use Rattle.std.specs.List.{All};
 ghost use Rattle.bit_ops.specs.Operators as ops;
 ghost use Rattle.netlist.specs.Run.{after_writes, written};
@@ -18,7 +18,21 @@ use netlist::design::{Memory, MemoryWrite};
 use step_program::rare::{Whole, inserted};
 use step_program::words::MemoryWords;
 
-// Puts bits into the word at a place, from a bit on; what falls outside of the word is lost.
+// A word with the bits of another number from a place on; what falls outside of the word is lost. Most writes are of
+// whole words, for which no mask is needed.
+fn word_with(word: u128, width: u32, from: Whole, part: Bits) -> u128
+    requires width { (1 ≤ width) × (width ≤ MAX_WIDTH) }
+    requires word { word < 2 ^ width }
+    ensures fits { result < 2 ^ width }
+    ensures value { result ≡ ops.insert width (whole_of from) part.width part.value word }
+{
+    match from {
+        Whole::Up(0) if part.width() == width => part.value(),
+        Whole::Up(_) | Whole::Below(_) => inserted(Bits::of(width, word), from, part).value(),
+    }
+}
+
+// Puts bits into the word at a place, from a bit on.
 fn put_bits(words: &mut MemoryWords, place: usize, width: u32, from: Whole, part: Bits)
     requires words { kept.AreWords width words.old }
     requires place { place < length (contents words.old) }
@@ -29,13 +43,9 @@ fn put_bits(words: &mut MemoryWords, place: usize, width: u32, from: Whole, part
 {
     match words {
         MemoryWords::Narrow(words) => {
-            let word = Bits::of(width, u128::from(words[place]));
-            words[place] = inserted(word, from, part).value() as u64;
+            words[place] = word_with(u128::from(words[place]), width, from, part) as u64;
         }
-        MemoryWords::Wide(words) => {
-            let word = Bits::of(width, words[place]);
-            words[place] = inserted(word, from, part).value();
-        }
+        MemoryWords::Wide(words) => words[place] = word_with(words[place], width, from, part),
     }
 }
 
