@@ -13,6 +13,7 @@ use Rattle.flat_sim.specs.Moment.{Moment}
 use Rattle.flat_sim.specs.Slots.{numbers}
 use Rattle.flat_sim.specs.Moves.{IsCommitOf}
 use Rattle.flat_sim.specs.Kept.{AllKept, state_words}
+use Rattle.flat_sim.specs.Stops.{stop_slots}
 use Rattle.flat_sim.specs.States.{RegistersFit}
 use Rattle.flat_sim.specs.declared.sim.Sim.TheInside.{Inside}
 
@@ -65,4 +66,5 @@ pub record IsSound (a : Inside) : Type 0 where
   pub registers : RegistersFit (flat_of a).registers (state_of a).registers
   pub words : AllKept (flat_of a).memories a.words.items
   pub commit : IsCommitOf (flat_of a) a.compiled a.commit
+  pub stops : a.stops.items ≡ stop_slots a.compiled.nodes (flat_of a).blocks
   pub settled : a.settled ≡ true → HasSettled a

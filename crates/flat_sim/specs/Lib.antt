@@ -4,5 +4,6 @@ pub mod Moves
 pub mod Kept
 pub mod States
 pub mod Writes
+pub mod Stops
 pub mod Signals
 pub mod Inside

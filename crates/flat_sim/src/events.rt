@@ -1,4 +1,4 @@
-//! What fires in a cycle.
+//! The messages of what fires in a cycle.
 
 ghost use Rattle.std.specs.Prelude.{◌≡◌, ◌<◌, length, IfOk};
 ghost use Rattle.std.specs.List.{All};
@@ -12,34 +12,6 @@ use dt_core::fault::NoMemory;
 use message_text::telling::{Fired, Given, Telling};
 use netlist::design::{Effect, Event};
 use std::alloc::{AllocError, Global};
-
-// Whether a stop among the events is done.
-fn block_fires(nodes: &Nodes, events: &[Event]) -> bool
-    requires events { All (EventFits nodes.now.flat.nodes) events.now }
-    ensures { result ≡ writes.stops_in nodes.now.numbers events.now }
-{
-    for event in events {
-        if nodes.holds(event.condition) {
-            if let Effect::Stopped(_, _) = &event.effect {
-                return true;
-            }
-        }
-    }
-    false
-}
-
-/// Whether an assertion fires. It takes no memory.
-pub(crate) fn some_fires(nodes: &Nodes) -> bool
-    ensures { result
-        ≡ writes.has_some (blocks_fired nodes.now.flat.nodes nodes.now.numbers 0 nodes.now.flat.blocks) }
-{
-    for block in nodes.flat.blocks() {
-        if block_fires(nodes, &block.events) {
-            return true;
-        }
-    }
-    false
-}
 
 // What an event is given.
 fn given(nodes: &Nodes, event: &Event) -> Given

@@ -18,4 +18,5 @@ mod signals;
 pub mod sim;
 pub mod state;
 pub mod steps;
+mod stops;
 mod writes;

@@ -11,13 +11,14 @@ ghost use Rattle.flat_sim.specs.States as states;
 ghost use Rattle.flat_sim.specs.Writes.{has_some};
 
 use crate::commits::{Commit, initial_values, take_next};
-use crate::events::{all_fired, some_fires};
+use crate::events::all_fired;
 use crate::given::{first_slots, later_slots, put_all, read_all};
 use crate::kept::{first_words, state_words, words_of};
 use crate::nodes::Nodes;
 use crate::signals::{own_value, with_driven, with_registers};
 use crate::state::FlatState;
 use crate::steps::Steps;
+use crate::stops::{some_holds, stop_slots};
 use crate::writes::write_memories;
 use dt_core::bits::Bits;
 use dt_core::fault::NoMemory;
@@ -29,10 +30,11 @@ use netlist::laws::{settles_law, values_law};
 use std::alloc::Global;
 use std::marker::Model;
 use std::sync::ledger::Ledger;
+use step_program::step::Slot;
 use step_program::words::{MemoryWords, SlotValues};
 
 /// A design that runs: its program, what stands in the program's slots, the words of all memories, how the register parts
-/// take their next values, the cycle, and whether it has settled.
+/// take their next values, the slots of the conditions of all stops, the cycle, and whether it has settled.
 #[derive(Drop)]
 pub struct Sim<'a> {
     flat: &'a Flat,
@@ -40,6 +42,7 @@ pub struct Sim<'a> {
     slots: SlotValues,
     words: Vec<MemoryWords>,
     commit: Commit,
+    stops: Vec<Slot>,
     cycle: u64,
     settled: bool,
 }
@@ -111,6 +114,7 @@ impl<'a> Sim<'a> {
         let parts = flat.registers();
         let given = first_slots(compiled.given(), parts.len());
         put_all(&mut slots, given, registers);
+        let stops = stop_slots(alloc, flat.blocks(), compiled.nodes())?;
         let commit = Commit::of(alloc, given, parts, compiled.nodes())?;
         Ok(Sim {
             flat,
@@ -118,6 +122,7 @@ impl<'a> Sim<'a> {
             slots,
             words,
             commit,
+            stops,
             cycle,
             settled: false,
         })
@@ -173,7 +178,7 @@ impl<'a> Sim<'a> {
         requires { IsSome self.now.values }
         ensures { IsSomeAnd self.now.values (λ v. result ≡ has_some (run.flat_fired self.now.flat v)) }
     {
-        some_fires(&self.nodes())
+        some_holds(&self.slots, &self.stops)
     }
 
     /// The assertions that fire, in order, with their messages.

@@ -42,6 +42,7 @@ invariant_of-self c =
       registers = done.fits;
       words = subst (λ ws. AllKept f.memories ws) (sym items) c.write_memories.ensures.kept;
       commit = c.take_next.ensures.commit;
+      stops = c.self.invariant.stops;
       settled = λ e. absurd cc;
     }
 

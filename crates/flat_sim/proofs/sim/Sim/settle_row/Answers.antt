@@ -88,6 +88,7 @@ invariant_of-self c =
       registers = subst (λ ns. RegistersFit a.flat.now.registers ns) (sym (over c).state) c.self.invariant.registers;
       words = c.self.invariant.words;
       commit = c.self.invariant.commit;
+      stops = c.self.invariant.stops;
       settled = λ e. record {
         nodes = (now_settled c).nodes;
         fit = (now_settled c).fit;

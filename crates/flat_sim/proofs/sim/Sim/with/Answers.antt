@@ -9,6 +9,8 @@ use Rattle.flat_sim.specs.Kept.{state_words}
 use Rattle.flat_sim.specs.States.{RegistersFit}
 use Rattle.flat_sim.proofs.Settles.{slot_count, register_count}
 use Rattle.flat_sim.proofs.Machines.{PutState, put_state}
+use Rattle.flat_sim.specs.Stops.{stop_slots}
+use Rattle.flat_sim.proofs.Fires.{conditions_there}
 use Rattle.flat_sim.proofs.Taken.{next_there}
 use Rattle.flat_sim.proofs.Ran.{state_takes}
 use Rattle.flat_sim.proofs.sim.Sim.with.Goals as goal
@@ -56,13 +58,20 @@ to_slots c =
     c.first_slots-given.ensures ∙ ap (λ rs. take (length rs) c.given.result.now) c.registers-parts.ensures.registers
     ∙ ap (λ ss. take (length c.args.flat.now.registers) ss) c.given.ensures
 
+pub stop_slots-requires : goal.stop_slots-requires
+stop_slots-requires c =
+    let f = c.args.flat.now in
+    subst (λ bs. All (λ b. All (λ x. x.condition < length c.nodes.result.now) b.events) bs) (sym c.blocks-2.ensures.blocks)
+    (subst (λ n. All (λ b. All (λ x. x.condition < n) b.events) f.blocks)
+    (sym (ap length c.nodes.ensures ∙ c.in_ok-compiled.ensures.count)) (conditions_there f c.blocks-2.ensures.fits))
+
 pub of-requires-clause-next : goal.of-requires-clause-next
 of-requires-clause-next c =
     let f = c.args.flat.now in
     let m = c.in_ok-compiled.compiled in
-    subst (λ ps. All (λ p. p.next < length c.nodes.result.now) ps) (sym c.registers-parts.ensures.registers)
+    subst (λ ps. All (λ p. p.next < length c.nodes-2.result.now) ps) (sym c.registers-parts.ensures.registers)
     (subst (λ n. All (λ p. p.next < n) f.registers)
-    (sym (ap length c.nodes.ensures ∙ c.in_ok-compiled.ensures.count)) (next_there f c.registers-parts.ensures.fits))
+    (sym (ap length c.nodes-2.ensures ∙ c.in_ok-compiled.ensures.count)) (next_there f c.registers-parts.ensures.fits))
 
 pub invariant_of-result : goal.invariant_of-result
 invariant_of-result c =
@@ -75,9 +84,11 @@ invariant_of-result c =
       registers = subst (λ ns. RegistersFit f.registers ns) (sym (put c).registers) c.requires.registers;
       words = c.requires.words;
       commit = subst (λ ss. IsCommit ss (next_slots f.registers c.in_ok-compiled.compiled.nodes) c.in_ok-commit.commit) (to_slots c)
-          (subst (λ ns. IsCommit c.first_slots-given.result.now (next_slots f.registers ns) c.in_ok-commit.commit) c.nodes.ensures
-          (subst (λ ps. IsCommit c.first_slots-given.result.now (next_slots ps c.nodes.result.now) c.in_ok-commit.commit)
+          (subst (λ ns. IsCommit c.first_slots-given.result.now (next_slots f.registers ns) c.in_ok-commit.commit) c.nodes-2.ensures
+          (subst (λ ps. IsCommit c.first_slots-given.result.now (next_slots ps c.nodes-2.result.now) c.in_ok-commit.commit)
           c.registers-parts.ensures.registers c.in_ok-commit.ensures));
+      stops = c.in_ok-stops.ensures ∙ ap (λ ns. stop_slots ns c.blocks-2.result.now) c.nodes.ensures
+          ∙ ap (λ bs. stop_slots c.in_ok-compiled.compiled.nodes bs) c.blocks-2.ensures.blocks;
       settled = λ e. absurd cc;
     }
 
