@@ -8,16 +8,16 @@ use Rattle.atomic_table.specs.Table.{Me, Splits}
 use Rattle.atomic_table.specs.declared.shared.Seat.{Seat}
 use Rattle.named_run.specs.Named.{end_of}
 use Rattle.token_net.specs.Posts.{Leader, Posts, PostsHold}
-use Rattle.gang_board.specs.Views.{Named, HeldLeader, HeldLagger, course, rested_leader, rested_lagger}
-use Rattle.gang_board.specs.Rule.{Each, Ruled}
-use Rattle.gang_board.specs.Plays.{both, without_leader, leader_alone, leader_view}
+use Rattle.board_rule.specs.Views.{Named, HeldLeader, HeldLagger, course, rested_leader, rested_lagger}
+use Rattle.board_rule.specs.Rule.{Each, Ruled}
+use Rattle.board_rule.specs.Plays.{both, without_leader, leader_alone, leader_view}
 use Rattle.gang_board.specs.Seats.{leader_looks_of, IsLeaderSeat}
 use Rattle.gang_board.specs.CatchUp.{IsCarrier, caught_leader, caught_lagger, Looked, LeadersLooked, LeaderLooked, LeaderCaughtUp}
 use Rattle.gang_board.specs.declared.posts.LeaderPost.{LeaderPost}
 use Rattle.gang_board.proofs.Makes.{added, ahead}
-use Rattle.gang_board.specs.declared.view.View.{View}
+use Rattle.board_rule.specs.declared.view.View.{View}
 use Rattle.gang_board.specs.declared.board.Board.{Board}
-use Rattle.gang_board.proofs.Seated.{leader_split}
+use Rattle.board_rule.proofs.Seated.{leader_split}
 
 abbrev number_of : HeldLeader → ℕ
 number_of k = k.number

@@ -8,19 +8,19 @@ use Rattle.atomic_table.specs.Table.{Me, Splits}
 use Rattle.atomic_table.specs.declared.shared.Seat.{Seat}
 use Rattle.named_run.specs.Named.{end_of}
 use Rattle.token_net.specs.Posts.{Lagger, Posts, PostsHold, present, sight}
-use Rattle.gang_board.specs.Views.{Named, HeldLeader, HeldLagger, course, rested_leader, rested_lagger}
-use Rattle.gang_board.specs.Rule.{Each, Ruled}
-use Rattle.gang_board.specs.Plays.{both, without_lagger, lagger_alone, lagger_view}
+use Rattle.board_rule.specs.Views.{Named, HeldLeader, HeldLagger, course, rested_leader, rested_lagger}
+use Rattle.board_rule.specs.Rule.{Each, Ruled}
+use Rattle.board_rule.specs.Plays.{both, without_lagger, lagger_alone, lagger_view}
 use Rattle.gang_board.specs.Seats.{lagger_looks_of, IsLaggerSeat}
 use Rattle.gang_board.specs.Sights.{sight_of}
-use Rattle.gang_board.specs.Told.{leader}
+use Rattle.gang_board.specs.PostStates.{leader}
 use Rattle.gang_board.specs.CatchUp.{IsCarrier, all_present, caught_leader, caught_lagger, Looked, AllLooked, LaggerLooked, LaggerCaughtUp, LeaderCaughtUp, AreLeaders, seen_of}
 use Rattle.gang_board.specs.declared.seen.Seen.{Seen}
-use Rattle.gang_board.specs.declared.view.View.{View}
+use Rattle.board_rule.specs.declared.view.View.{View}
 use Rattle.gang_board.specs.declared.board.Board.{Board}
 use Rattle.gang_board.specs.declared.posts.LeaderPost.{LeaderPost}
 use Rattle.gang_board.specs.declared.posts.LagPost.{LagPost}
-use Rattle.gang_board.proofs.Seated.{lagger_split}
+use Rattle.board_rule.proofs.Seated.{lagger_split}
 use Rattle.gang_board.proofs.Makes.{added, ahead}
 
 abbrev head_or : {A : Type 0} → A → List A → A

@@ -1,9 +1,3 @@
-pub mod Lists
-pub mod Words
-pub mod PostsSteps
-pub mod Keeps
-pub mod Steps
-pub mod Seated
 pub mod Opening
 pub mod PostSeats
 pub mod Makes

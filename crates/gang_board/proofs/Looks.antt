@@ -7,21 +7,21 @@ use Rattle.std.proofs.lemmas.List.FromFn.{length-range_with_len, get_or-range_wi
 use Rattle.atomic_table.specs.Table.{Me, Step, Allows}
 use Rattle.atomic_table.specs.declared.shared.Seat.{Seat}
 use Rattle.token_net.specs.Posts.{Sight, Lagger, Posts, present, sight, with_sight, PostsHold}
-use Rattle.gang_board.specs.Views.{Named, HeldLeader, HeldLagger, course, rested_leader, rested_lagger}
-use Rattle.gang_board.specs.Rule.{Each, Ruled, leader_word, fire_word}
+use Rattle.board_rule.specs.Views.{Named, HeldLeader, HeldLagger, course, rested_leader, rested_lagger}
+use Rattle.board_rule.specs.Rule.{Each, Ruled, leader_word, fire_word}
 use Rattle.gang_board.specs.declared.board.Board.{Board}
-use Rattle.gang_board.proofs.Steps.{see_fire_keeps, see_leader_keeps}
-use Rattle.gang_board.specs.Plays.{Stood, told, number_at, sees_fire, FindsLeader, sees_leader, saw_fire, saw_leader, with_leaders, with_laggers}
+use Rattle.board_rule.proofs.Steps.{see_fire_keeps, see_leader_keeps}
+use Rattle.board_rule.specs.Plays.{Stood, sight_in, number_at, sees_fire, FindsLeader, sees_leader, saw_fire, saw_leader, with_leaders, with_laggers}
 use Rattle.gang_board.specs.CatchUp.{all_present, caught_leader, caught_lagger, Looked, IsCarrier}
-use Rattle.gang_board.specs.declared.view.View.{View}
-use Rattle.gang_board.proofs.Lists.{each_map}
+use Rattle.board_rule.specs.declared.view.View.{View}
+use Rattle.board_rule.proofs.Lists.{each_map}
 
-abbrev nobody_held : HeldLeader
-nobody_held = record { number = 0; post = record { at = 0; halted = false; reported = false; seen = 0 }; looks = 0 }
+abbrev no_post_held : HeldLeader
+no_post_held = record { number = 0; post = record { at = 0; halted = false; reported = false; seen = 0 }; looks = 0 }
 
 -- the leader at a place of the list
 abbrev at_place : List HeldLeader → ℕ → HeldLeader
-at_place ls i = get_or ls i nobody_held
+at_place ls i = get_or ls i no_post_held
 
 each_at : {A : Type 0} (P : A → Type 0) (xs : List A) (i : ℕ) (d : A) → Each P xs → i < length xs → P (get_or xs i d)
 each_at P [] i d e l = absurd (omega (arith, l))
@@ -76,7 +76,7 @@ number_at_place : (ls : List HeldLeader) (k m i : ℕ) → map (λ (x : HeldLead
 number_at_place ls k m i e l =
     let size : length ls ≡ m = sym (length-map ls (λ (x : HeldLeader). x.number)) ∙ ap length e ∙ length-range_with_len k m in
     let there : i < length ls = omega (arith, size, l) in
-    (there, sym (get_or-map (λ (x : HeldLeader). x.number) ls i nobody_held 0 there) ∙ ap (λ (xs : List ℕ). get_or xs i 0) e ∙ get_or-range_with_len k m i 0 l)
+    (there, sym (get_or-map (λ (x : HeldLeader). x.number) ls i no_post_held 0 there) ∙ ap (λ (xs : List ℕ). get_or xs i 0) e ∙ get_or-range_with_len k m i 0 l)
 
 -- ---- the looks
 
@@ -98,22 +98,22 @@ sized n v same t = each_map (λ (x : HeldLagger). (x.number < v.named.parts) × 
 
 pub look_more : (old now next : Seat ℕ View) (p found : ℕ) → map (λ (x : HeldLeader). x.number) old.me.0.leaders ≡ range_with_len 0 old.me.0.named.parts → p < old.me.0.named.parts
     → Looking old p now → next.table_id ≡ now.table_id
-    → next.me ≡ (with_laggers (saw_leader p (told found)) now.me.0, now.me.1) → Stood (with_laggers (saw_leader p (told found)) now.me.0)
-    → Each (λ (k : HeldLeader). k.number ≡ p → told found ≡ present k.post) now.me.0.leaders → Looking old (p + 1) next
+    → next.me ≡ (with_laggers (saw_leader p (sight_in found)) now.me.0, now.me.1) → Stood (with_laggers (saw_leader p (sight_in found)) now.me.0)
+    → Each (λ (k : HeldLeader). k.number ≡ p → sight_in found ≡ present k.post) now.me.0.leaders → Looking old (p + 1) next
 look_more old now next p found numbers l h board is t each =
     let ls : List HeldLeader = old.me.0.leaders in
     let place = number_at_place ls 0 old.me.0.named.parts p numbers l in
-    let here = subst (Each (λ (k : HeldLeader). k.number ≡ p → told found ≡ present k.post)) h.leaders each in
-    let saw : told found ≡ present (at_place ls p).post =
-    each_at (λ (k : HeldLeader). k.number ≡ p → told found ≡ present k.post) ls p nobody_held here place.0 (let e = place.1 in omega (arith, e)) in
+    let here = subst (Each (λ (k : HeldLeader). k.number ≡ p → sight_in found ≡ present k.post)) h.leaders each in
+    let saw : sight_in found ≡ present (at_place ls p).post =
+    each_at (λ (k : HeldLeader). k.number ≡ p → sight_in found ≡ present k.post) ls p no_post_held here place.0 (let e = place.1 in omega (arith, e)) in
     record {
       board = board ∙ h.board;
       free = ap (λ (m : Me ℕ View). m.1) is ∙ h.free;
       named = ap (λ (m : Me ℕ View). m.0.named) is ∙ h.named;
       leaders = ap (λ (m : Me ℕ View). m.0.leaders) is ∙ h.leaders;
       laggers = subst (Paired (SeenTo ls (p + 1)) old.me.0.laggers) (sym (ap (λ (m : Me ℕ View). m.0.laggers) is))
-          (more_seen ls old.me.0.named.parts p (told found) l saw old.me.0.laggers now.me.0.laggers h.laggers
-          (sized old.me.0.named (with_laggers (saw_leader p (told found)) now.me.0) h.named t));
+          (more_seen ls old.me.0.named.parts p (sight_in found) l saw old.me.0.laggers now.me.0.laggers h.laggers
+          (sized old.me.0.named (with_laggers (saw_leader p (sight_in found)) now.me.0) h.named t));
     }
 
 -- ---- where the seat may look
@@ -162,10 +162,10 @@ module _ (b : Board) (old now : Seat ℕ View) (carrier : IsCarrier b 0 0 old) w
       (see_fire_keeps now.me.0.named slots now.id st q.0 q.1 now.me.0.laggers)
 
 -- a look as the step tells it, by the number of its leader
-pub look_told : (old now next : Seat ℕ View) (p number found : ℕ) → number ≡ p → map (λ (x : HeldLeader). x.number) old.me.0.leaders ≡ range_with_len 0 old.me.0.named.parts → p < old.me.0.named.parts
+pub look_seen : (old now next : Seat ℕ View) (p number found : ℕ) → number ≡ p → map (λ (x : HeldLeader). x.number) old.me.0.leaders ≡ range_with_len 0 old.me.0.named.parts → p < old.me.0.named.parts
     → Looking old p now → next.table_id ≡ now.table_id
     → FindsLeader number found now.me next.me → Looking old (p + 1) next
-look_told old now next p number found e numbers l h board t =
+look_seen old now next p number found e numbers l h board t =
     let u : FindsLeader p found now.me next.me = subst (λ (q : ℕ). FindsLeader q found now.me next.me) e t in
     look_more old now next p found numbers l h board u.0 u.1.0 u.1.3
 
@@ -206,7 +206,7 @@ looked_all old now next found numbers h board is t fire =
     (each_of_map (λ (k : HeldLeader). (k.number < now.me.0.named.parts) × (k.post ≡ c.leader k.number)) (saw_fire found) now.me.0.leaders t.leaders) in
     let shown : (i : ℕ) → i < n.parts → present (at_place ls i).post ≡ present (c.leader i) = λ i l.
     (let place = number_at_place ls 0 n.parts i numbers l in
-    let o = each_at (λ (k : HeldLeader). (k.number < now.me.0.named.parts) × ((saw_fire found k).post ≡ c.leader k.number)) ls i nobody_held leaders place.0 in
+    let o = each_at (λ (k : HeldLeader). (k.number < now.me.0.named.parts) × ((saw_fire found k).post ≡ c.leader k.number)) ls i no_post_held leaders place.0 in
     let e : (at_place ls i).number ≡ i = (let a = place.1 in omega (arith, a)) in
     ap present o.1 ∙ ap (λ (q : ℕ). present (c.leader q)) e) in
     let laggers : Each (λ (k : HeldLagger). (k.number < n.parts) × (k.post ≡ c.lagger k.number)) now.me.0.laggers =

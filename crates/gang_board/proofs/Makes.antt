@@ -8,19 +8,19 @@ use Rattle.std.proofs.lemmas.List.{length-append, length-replicate, get_or-repli
 use Rattle.atomic_table.specs.Table.{Me, Splits}
 use Rattle.named_run.specs.Named.{RunData, end_of}
 use Rattle.token_net.specs.Posts.{Sight, first_posts}
-use Rattle.gang_board.specs.Views.{HeldLeader, HeldLagger, first_leader, first_lagger}
-use Rattle.gang_board.specs.Rule.{Ruled, word_count}
-use Rattle.gang_board.specs.Plays.{leader_view, lagger_view, without_leader, leader_alone, without_lagger, lagger_alone}
+use Rattle.board_rule.specs.Views.{HeldLeader, HeldLagger, first_leader, first_lagger}
+use Rattle.board_rule.specs.Rule.{Ruled, word_count}
+use Rattle.board_rule.specs.Plays.{leader_view, lagger_view, without_leader, leader_alone, without_lagger, lagger_alone}
 use Rattle.gang_board.specs.Seats.{leader_looks_of, lagger_looks_of, IsLeaderSeat, IsLaggerSeat}
-use Rattle.gang_board.specs.Told.{leader, lagger}
+use Rattle.gang_board.specs.PostStates.{leader, lagger}
 use Rattle.gang_board.specs.Begins.{Begins, named_in, left_view, first_view, without_leaders, IsNewLeader, IsNewLagger, AreNewLeaders, AreNewLaggers}
-use Rattle.gang_board.specs.declared.view.View.{View}
-use Rattle.gang_board.specs.declared.setup.Setup.{Setup}
+use Rattle.board_rule.specs.declared.view.View.{View}
+use Rattle.board_rule.specs.declared.setup.Setup.{Setup}
 use Rattle.gang_board.specs.declared.board.Board.{Board}
 use Rattle.gang_board.specs.declared.posts.LeaderPost.{LeaderPost}
 use Rattle.gang_board.specs.declared.posts.LagPost.{LagPost}
 use Rattle.gang_board.proofs.Opening.{each_leader, each_lagger, start_holds}
-use Rattle.gang_board.proofs.Seated.{leader_split, lagger_split}
+use Rattle.board_rule.proofs.Seated.{leader_split, lagger_split}
 
 -- where not all are made, some are left
 some_left : (k left n : ℕ) → k + left ≡ n → k < n → (m : ℕ) × (left ≡ suc m)
@@ -111,11 +111,11 @@ module _ (b : Board) (r : RunData) (s : Setup) where
 
     pub new_leader : (post : LeaderPost) → post.seat.table_id ≡ b.table.shared.table_id → post.number ≡ k → leader post ≡ (first_leader s.leader_at k).post
         → post.seat.me ≡ (leader_alone me.0, []) → IsNewLeader b (named_in r s) s.leader_at k post
-    new_leader post board number told e = let is = leader_alone_is post.seat.me e in record {
+    new_leader post board number same_post e = let is = leader_alone_is post.seat.me e in record {
       board = board;
       number = number;
       named = ap (λ (m : Me ℕ View). m.0.named) is;
-      post = told;
+      post = same_post;
       looks = ap (λ (m : Me ℕ View). leader_looks_of m.0.leaders) is;
     }
 
@@ -175,11 +175,11 @@ module _ (b : Board) (r : RunData) (s : Setup) where
     pub new_lagger : (post : LagPost) → post.seat.table_id ≡ b.table.shared.table_id → post.number ≡ k
         → lagger post ≡ (first_lagger s.leaders s.leader_at s.lagger_at k).post → post.seat.me ≡ (lagger_alone me.0, [])
         → IsNewLagger b (named_in r s) s.leader_at s.lagger_at k post
-    new_lagger post board number told e = let is = lagger_alone_is post.seat.me e in record {
+    new_lagger post board number same_post e = let is = lagger_alone_is post.seat.me e in record {
       board = board;
       number = number;
       named = ap (λ (m : Me ℕ View). m.0.named) is;
-      post = told;
+      post = same_post;
       looks = ap (λ (m : Me ℕ View). lagger_looks_of m.0.laggers) is;
     }
 

@@ -12,15 +12,15 @@ use Rattle.named_run.specs.Named.{RunData, end_of, fires, no_run}
 use Rattle.named_run.proofs.RunLaws.{no_run_fires}
 use Rattle.token_net.specs.Posts.{Lagger, Posts, first_posts, none_yet, PostsHold}
 use Rattle.token_net.proofs.PostsEnd.{posts_laws}
-use Rattle.gang_board.specs.Views.{Named, HeldLeader, HeldLagger, course, first_leader, first_lagger, leaders_from, laggers_from}
-use Rattle.gang_board.specs.Rule.{Each, Apart, leader_numbers, lagger_numbers, HasLeader, HasLagger, Knows, fire_word, leader_word, lagger_word, word_count, leader_code, IsCoded, Kept, Ruled}
-use Rattle.gang_board.specs.Plays.{everybody, names}
+use Rattle.board_rule.specs.Views.{Named, HeldLeader, HeldLagger, course, first_leader, first_lagger, leaders_from, laggers_from}
+use Rattle.board_rule.specs.Rule.{Each, Apart, leader_numbers, lagger_numbers, HasLeader, HasLagger, Knows, fire_word, leader_word, lagger_word, word_count, leader_code, IsCoded, Kept, Ruled}
+use Rattle.board_rule.specs.Plays.{all_posts, names}
 use Rattle.gang_board.specs.Begins.{first_word, Begins}
-use Rattle.gang_board.specs.declared.view.View.{View}
-use Rattle.gang_board.specs.declared.setup.Setup.{Setup}
-use Rattle.gang_board.proofs.Lists.{each_map, each_of_list}
-use Rattle.gang_board.proofs.Words.{code_read}
-use Rattle.gang_board.proofs.Keeps.{stood}
+use Rattle.board_rule.specs.declared.view.View.{View}
+use Rattle.board_rule.specs.declared.setup.Setup.{Setup}
+use Rattle.board_rule.proofs.Lists.{each_map, each_of_list}
+use Rattle.board_rule.proofs.Words.{code_read}
+use Rattle.board_rule.proofs.Keeps.{stood}
 
 -- ---- the first posts, by number
 
@@ -104,7 +104,7 @@ module _ (s : Setup) where
     laggers_apart = first_laggers s.leaders s.leader_at s.lagger_at 0 s.leaders;
   }
 
-  pub opens : 1 ≤ s.leaders → s.lagger_at ≡ s.leader_at - s.lag → Ruled (opening (map (first_word s) (range_with_len 0 (word_count s.leaders))) [] (everybody s))
+  pub opens : 1 ≤ s.leaders → s.lagger_at ≡ s.leader_at - s.lag → Ruled (opening (map (first_word s) (range_with_len 0 (word_count s.leaders))) [] (all_posts s))
   opens nonempty behind = record {
     named = unnamed;
     kept = record {
@@ -116,8 +116,8 @@ module _ (s : Setup) where
       knows = first_knows;
     };
   } where
-    first_knows : (j : ℕ) (v : View) → get_elem? (everybody s ∷ []) j ≡ some v → Knows (λ _. 0) (λ _. 0) unnamed start j v
-    first_knows zero v e = subst (Knows (λ _. 0) (λ _. 0) unnamed start 0) (some-injective (everybody s) v e) (knows_all unnamed refl (λ _. 0) (λ _. 0) 0 (λ _ _. refl) (λ _ _. refl))
+    first_knows : (j : ℕ) (v : View) → get_elem? (all_posts s ∷ []) j ≡ some v → Knows (λ _. 0) (λ _. 0) unnamed start j v
+    first_knows zero v e = subst (Knows (λ _. 0) (λ _. 0) unnamed start 0) (some-injective (all_posts s) v e) (knows_all unnamed refl (λ _. 0) (λ _. 0) 0 (λ _ _. refl) (λ _ _. refl))
     first_knows (suc j) v e = absurd (some-ne-none v (sym e))
 
   -- ---- the run is named
@@ -129,13 +129,13 @@ module _ (s : Setup) where
     pub start_holds : PostsHold (course named) start
     start_holds = (posts_laws (course named)).begins s.leader_at s.lagger_at begins.within begins.clear (keeps_lag s.leader_at s.lagger_at s.lag begins.behind)
 
-    pub names_keeps : (slots id : ℕ) (st : Step ℕ) → Allows Ruled slots id (everybody s, []) fire_word (λ w. w) (names r st (everybody s, []))
+    pub names_keeps : (slots id : ℕ) (st : Step ℕ) → Allows Ruled slots id (all_posts s, []) fire_word (λ w. w) (names r st (all_posts s, []))
     names_keeps slots id st t rule sized at room =
-        let old = rule.kept.knows id (everybody s) at in
+        let old = rule.kept.knows id (all_posts s) at in
         let same : unnamed ≡ rule.named = (leader_there (HasLeader rule.kept.home_leader rule.named rule.kept.posts id unnamed) s.leader_at 0 s.leaders 0 (omega arith) (omega (arith, nonempty)) old.leaders).3 in
         let h : Kept unnamed t = subst (λ (m : Named). Kept m t) (sym same) rule.kept in
         let c : Posts = h.posts in
-        let mine = h.knows id (everybody s) at in
+        let mine = h.knows id (all_posts s) at in
         let leader_is : (p : ℕ) → p < s.leaders → HasLeader h.home_leader unnamed c id unnamed (first_leader s.leader_at p) =
         λ p l. leader_there (HasLeader h.home_leader unnamed c id unnamed) s.leader_at 0 s.leaders p (omega arith) (omega (arith, l)) mine.leaders in
         let lagger_is : (q : ℕ) → q < s.leaders → HasLagger h.home_lagger unnamed c id unnamed (first_lagger s.leaders s.leader_at s.lagger_at q) =

@@ -3,13 +3,13 @@ use Rattle.std.proofs.Common.{◌≡◌, ℕ, ◌+◌, ◌%◌, ◌^◌, ◌<◌
 use Rattle.std.proofs.lemmas.Grind.{merely}
 use Rattle.atomic_table.specs.Table.{Me, Step, Allows}
 use Rattle.token_net.specs.Posts.{Leader, Lagger, Posts, PostsHold, MayRaise, MayHalt, MayReport, HasSeenFar, present, sight, with_sight, most_rows}
-use Rattle.gang_board.specs.Views.{HeldLeader, HeldLagger, course}
-use Rattle.gang_board.specs.Rule.{Each, Ruled, fire_word, leader_word, lagger_word}
-use Rattle.gang_board.specs.Plays.{Stood, with_leaders, with_laggers, leader_view, lagger_view, raises, halts, reports, sees_fire, FindsLeader, sees_leader, lag_raises, number_at, told, saw_fire, saw_leader}
+use Rattle.board_rule.specs.Views.{HeldLeader, HeldLagger, course}
+use Rattle.board_rule.specs.Rule.{Each, Ruled, fire_word, leader_word, lagger_word}
+use Rattle.board_rule.specs.Plays.{Stood, with_leaders, with_laggers, leader_view, lagger_view, raises, halts, reports, sees_fire, FindsLeader, sees_leader, lag_raises, number_at, sight_in, saw_fire, saw_leader}
 use Rattle.gang_board.specs.Seats.{leader_looks_of, lagger_looks_of, IsLeaderSeat, IsLaggerSeat}
-use Rattle.gang_board.specs.Sights.{Grows}
-use Rattle.gang_board.specs.declared.view.View.{View}
-use Rattle.gang_board.proofs.Steps.{raise_keeps, halt_keeps, report_keeps, see_fire_keeps, see_leader_keeps, lag_raise_keeps}
+use Rattle.board_rule.specs.Plays.{Grows}
+use Rattle.board_rule.specs.declared.view.View.{View}
+use Rattle.board_rule.proofs.Steps.{raise_keeps, halt_keeps, report_keeps, see_fire_keeps, see_leader_keeps, lag_raise_keeps}
 
 -- ---- a leader's post
 
@@ -122,15 +122,15 @@ module _ (words q : ℕ) (y : Lagger) (me : Me ℕ View) (seat : IsLaggerSeat wo
       (see_leader_keeps me.0.named slots id st [] has_lagger [] p l number)
 
   -- what was found of a leader in a step of the seat
-  pub seen_grows : (p found : ℕ) (now : Me ℕ View) → FindsLeader p found me now → Grows (sight y p) (told found)
-  seen_grows p found now finds = (subst (Each (λ (k : HeldLagger). Grows (sight k.post p) (told found))) seat.laggers finds.1.2).0
+  pub seen_grows : (p found : ℕ) (now : Me ℕ View) → FindsLeader p found me now → Grows (sight y p) (sight_in found)
+  seen_grows p found now finds = (subst (Each (λ (k : HeldLagger). Grows (sight k.post p) (sight_in found))) seat.laggers finds.1.2).0
 
   pub found_leader : (p found : ℕ) (now : Me ℕ View) → FindsLeader p found me now
-      → (c : Posts) × PostsHold (course me.0.named) c × (with_sight p (told found) y ≡ c.lagger q) × (told found ≡ present (c.leader p))
+      → (c : Posts) × PostsHold (course me.0.named) c × (with_sight p (sight_in found) y ≡ c.lagger q) × (sight_in found ≡ present (c.leader p))
   found_leader p found now finds = let t = finds.1.0 in (
     t.posts,
     t.holds,
-    (subst (λ (l : List HeldLagger). Each (λ (k : HeldLagger). (k.number < me.0.named.parts) × (k.post ≡ t.posts.lagger k.number)) (map (saw_leader p (told found)) l)) seat.laggers t.laggers).0.1,
+    (subst (λ (l : List HeldLagger). Each (λ (k : HeldLagger). (k.number < me.0.named.parts) × (k.post ≡ t.posts.lagger k.number)) (map (saw_leader p (sight_in found)) l)) seat.laggers t.laggers).0.1,
     finds.1.1,
   )
 

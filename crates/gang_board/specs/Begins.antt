@@ -6,16 +6,16 @@ use Rattle.atomic_table.specs.Table.{Me}
 use Rattle.atomic_table.specs.declared.shared.Seat.{Seat}
 use Rattle.named_run.specs.Named.{RunData, end_of, fires}
 use Rattle.token_net.specs.Posts.{none_yet, most_rows}
-use Rattle.gang_board.specs.Views.{Named, first_leader, first_lagger, leaders_from, laggers_from}
-use Rattle.gang_board.specs.Rule.{fire_word, word_count}
-use Rattle.gang_board.specs.Told.{leader, leader_named, leader_looks, IsLeaderOf}
-use Rattle.gang_board.specs.Told.{lagger, lagger_named, lagger_looks, IsLaggerOf}
-use Rattle.gang_board.specs.declared.view.View.{View}
+use Rattle.board_rule.specs.Views.{Named, first_leader, first_lagger, leaders_from, laggers_from}
+use Rattle.board_rule.specs.Rule.{fire_word, word_count}
+use Rattle.gang_board.specs.PostStates.{leader, leader_named, leader_looks, IsLeaderOf}
+use Rattle.gang_board.specs.PostStates.{lagger, lagger_named, lagger_looks, IsLaggerOf}
+use Rattle.board_rule.specs.declared.view.View.{View}
 use Rattle.gang_board.specs.declared.board.Board.{Board}
 use Rattle.gang_board.specs.declared.posts.LeaderPost.{LeaderPost}
 use Rattle.gang_board.specs.declared.posts.LagPost.{LagPost}
 use Rattle.gang_board.specs.declared.seen.Seen.{Seen}
-use Rattle.gang_board.specs.declared.setup.Setup.{Setup}
+use Rattle.board_rule.specs.declared.setup.Setup.{Setup}
 
 -- the word at a place, before any step; those that stand between others are never read
 abbrev pub first_word : Setup → ℕ → ℕ

@@ -4,18 +4,18 @@ use Rattle.std.specs.Prelude.{slice_index_or}
 use Rattle.std.specs.List.{range_with_len}
 use Rattle.atomic_table.specs.declared.shared.Seat.{Seat}
 use Rattle.token_net.specs.Posts.{Sight, Posts, PostsHold, present}
-use Rattle.gang_board.specs.Views.{Named, HeldLeader, HeldLagger, course, rested_leader, rested_lagger}
-use Rattle.gang_board.specs.Rule.{Each}
+use Rattle.board_rule.specs.Views.{Named, HeldLeader, HeldLagger, course, rested_leader, rested_lagger}
+use Rattle.board_rule.specs.Rule.{Each}
 use Rattle.gang_board.specs.Seats.{IsBoardOf}
 use Rattle.gang_board.specs.Sights.{cycle_of}
-use Rattle.gang_board.specs.Told.{leader, leader_named, IsLeaderOf, LeaderBecomes}
-use Rattle.gang_board.specs.Told.{lagger, lagger_named, IsLaggerOf, LaggerBecomes}
-use Rattle.gang_board.specs.declared.view.View.{View}
+use Rattle.gang_board.specs.PostStates.{leader, leader_named, IsLeaderOf, LeaderBecomes}
+use Rattle.gang_board.specs.PostStates.{lagger, lagger_named, IsLaggerOf, LaggerBecomes}
+use Rattle.board_rule.specs.declared.view.View.{View}
 use Rattle.gang_board.specs.declared.board.Board.{Board}
 use Rattle.gang_board.specs.declared.posts.LeaderPost.{LeaderPost}
 use Rattle.gang_board.specs.declared.posts.LagPost.{LagPost}
 use Rattle.gang_board.specs.declared.seen.Seen.{Seen}
-use Rattle.gang_board.specs.declared.setup.TheConstants.{MAX_LEADERS}
+use Rattle.board_rule.specs.declared.setup.TheConstants.{MAX_LEADERS}
 
 -- ---- the posts that are handed in
 
@@ -74,7 +74,7 @@ pub record CaughtUp (n : Named) (word : ℕ) (old new : List LeaderPost) (first 
 
 -- the answer tells the fire word of that moment
 abbrev pub CatchesUp : Named → Option ℕ → List LeaderPost → List LeaderPost → List LagPost → List LagPost → Type 0
-CatchesUp n told old new first second = (word : ℕ) × (told ≡ cycle_of word) × CaughtUp n word old new first second
+CatchesUp n answer old new first second = (word : ℕ) × (answer ≡ cycle_of word) × CaughtUp n word old new first second
 
 -- ---- the seat that has them for a while
 

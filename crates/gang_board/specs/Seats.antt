@@ -3,9 +3,9 @@ use Rattle.std.specs.Prelude.{◌≡◌, ℕ, ◌<◌, ◌≤◌, List, [], ◌�
 use Rattle.atomic_table.specs.Table.{Me}
 use Rattle.named_run.specs.Named.{end_of}
 use Rattle.token_net.specs.Posts.{Leader, Lagger, Posts, PostsHold, sight, most_rows}
-use Rattle.gang_board.specs.Views.{Named, HeldLeader, HeldLagger, course}
-use Rattle.gang_board.specs.Rule.{word_count}
-use Rattle.gang_board.specs.declared.view.View.{View}
+use Rattle.board_rule.specs.Views.{Named, HeldLeader, HeldLagger, course}
+use Rattle.board_rule.specs.Rule.{word_count}
+use Rattle.board_rule.specs.declared.view.View.{View}
 
 -- how often the first leader has looked at the fire word, and the first lagger at each leader's word
 abbrev pub leader_looks_of : List HeldLeader → ℕ

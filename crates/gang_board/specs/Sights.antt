@@ -1,5 +1,5 @@
 -- What the program keeps of what was seen. This project's own.
-use Rattle.std.specs.Prelude.{◌≡◌, ℕ, ◌==◌, ◌≤◌, true, Option, Some, None, if◌then◌else◌}
+use Rattle.std.specs.Prelude.{ℕ, ◌==◌, Option, Some, None, if◌then◌else◌}
 use Rattle.token_net.specs.Posts.{Sight, none_yet}
 use Rattle.gang_board.specs.declared.seen.Seen.{Seen}
 
@@ -10,8 +10,3 @@ sight_of s = record { at = s.position; halted = s.halted }
 -- the cycle that a fire word tells, or none yet
 abbrev pub cycle_of : ℕ → Option ℕ
 cycle_of w = if w == none_yet then None else Some w
-
--- what was seen of a leader only grows: its position doesn't fall, and a halt that was seen stays, with its position
-pub record Grows (old new : Sight) : Type 0 where
-  pub further : old.at ≤ new.at
-  pub last : old.halted ≡ true → new ≡ old

@@ -6,12 +6,12 @@ ghost use Rattle.gang_board.specs.Begins.{without_leaders, Begins, BeginsAt, IsF
 ghost use Rattle.gang_board.specs.Begins.{LeadersParted, AreAllLaggers};
 
 use crate::board::{Board, FIRE_WORD};
-use crate::plays::{FirstLagger, FirstLeader, Names};
 use crate::posts::{LagPost, LeaderPost, NONE_YET};
 use crate::seen::Seen;
-use crate::setup::{MAX_LEADERS, Setup};
-use crate::view::View;
 use atomic_table::{Seat, Table};
+use board_rule::plays::{FirstLagger, FirstLeader, Names};
+use board_rule::setup::{MAX_LEADERS, Setup};
+use board_rule::view::View;
 use dt_core::fault::NoMemory;
 use named_run::run::RunName;
 use std::alloc::Global;

@@ -2,20 +2,21 @@
 
 ghost use Rattle.std.specs.Prelude.{◌≡◌, ◌<◌, ◌≤◌};
 ghost use Rattle.token_net.specs.Posts.{MayRaise, MayHalt, HasSeenFar, sight};
-ghost use Rattle.gang_board.specs.Views.{course};
-ghost use Rattle.gang_board.specs.Rule.{leader_word, lagger_word};
-ghost use Rattle.gang_board.specs.Sights.{sight_of, cycle_of, Grows};
-ghost use Rattle.gang_board.specs.Told.{leader, leader_named, IsLeaderOf, LeaderRaised, LeaderHalted};
-ghost use Rattle.gang_board.specs.Told.{MayReportFire, LeaderReported};
-ghost use Rattle.gang_board.specs.Told.{LeaderLooks, FoundFire, lagger, lagger_named, IsLaggerOf, LaggerRaised};
-ghost use Rattle.gang_board.specs.Told.{LaggerLooks, FoundLeader};
+ghost use Rattle.board_rule.specs.Views.{course};
+ghost use Rattle.board_rule.specs.Rule.{leader_word, lagger_word};
+ghost use Rattle.board_rule.specs.Plays.{Grows};
+ghost use Rattle.gang_board.specs.Sights.{sight_of, cycle_of};
+ghost use Rattle.gang_board.specs.PostStates.{leader, leader_named, IsLeaderOf, LeaderRaised, LeaderHalted};
+ghost use Rattle.gang_board.specs.PostStates.{MayReportFire, LeaderReported};
+ghost use Rattle.gang_board.specs.PostStates.{LeaderLooks, FoundFire, lagger, lagger_named, IsLaggerOf, LaggerRaised};
+ghost use Rattle.gang_board.specs.PostStates.{LaggerLooks, FoundLeader};
 
-use crate::plays::{Halts, LagRaises, Raises, Reports, Rule, SeesFire, SeesLeader};
 use crate::posts::{LagPost, LeaderPost, fire_cycle};
 use crate::seen::Seen;
-use crate::setup::Setup;
-use crate::view::View;
 use atomic_table::Table;
+use board_rule::plays::{Halts, LagRaises, Raises, Reports, Rule, SeesFire, SeesLeader};
+use board_rule::setup::Setup;
+use board_rule::view::View;
 use std::alloc::Global;
 
 // The place of the fire word.

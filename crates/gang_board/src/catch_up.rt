@@ -4,29 +4,29 @@
 //! fire word, and then each post gets a seat of its own again.
 
 ghost use Rattle.std.specs.Prelude.{◌≡◌, ◌+◌, ◌≤◌, map, length, []};
-ghost use Rattle.gang_board.specs.Views.{Named};
-ghost use Rattle.gang_board.specs.Plays.{nobody};
-ghost use Rattle.gang_board.specs.Told.{leader_named, IsLeaderOf};
+ghost use Rattle.board_rule.specs.Views.{Named};
+ghost use Rattle.board_rule.specs.Plays.{no_posts};
+ghost use Rattle.gang_board.specs.PostStates.{leader_named, IsLeaderOf};
 ghost use Rattle.gang_board.specs.CatchUp.{AreAllPosts, AreLeaders, AreLaggers, IsLeaderAt, IsLaggerAt, IsCarrier};
 ghost use Rattle.gang_board.specs.CatchUp.{Looked, LeadersLooked, LeaderLooked, AllLooked, LaggerLooked, CatchesUp};
 ghost use Rattle.gang_board.specs.CatchUp.{seen_of};
 
 use crate::board::{Board, FIRE_WORD, leader_place};
-use crate::plays::{FirstLagger, FirstLeader, SeesFire, SeesLeader, Spare, Together};
 use crate::posts::{LagPost, LeaderPost, fire_cycle};
 use crate::seen::Seen;
-use crate::view::View;
 use atomic_table::Seat;
+use board_rule::plays::{EmptySeat, FirstLagger, FirstLeader, SeesFire, SeesLeader, Together};
+use board_rule::view::View;
 use std::mem;
 
 impl Board {
     // A seat without posts.
-    fn spare_seat(&self, post: &mut LeaderPost) -> Seat<u8, View>
+    fn empty_seat(&self, post: &mut LeaderPost) -> Seat<u8, View>
         requires { IsLeaderOf self.now post.old }
         ensures post { post.new ≡ post.old }
-        ensures seat { (result.table_id ≡ post.old.seat.table_id) × (result.me ≡ (nobody (leader_named post.old), [])) }
+        ensures seat { (result.table_id ≡ post.old.seat.table_id) × (result.me ≡ (no_posts (leader_named post.old), [])) }
     {
-        self.table.shared.split_seat::<Spare>(&mut post.seat)
+        self.table.shared.split_seat::<EmptySeat>(&mut post.seat)
     }
 
     // The seat that has all posts looks at each leader's word and at the fire word, which is the result.
@@ -77,8 +77,8 @@ impl Board {
         requires count { (count ≡ carrier.old.me.0.named.parts) × (1 ≤ count) }
         ensures { LeaderLooked result carrier.old carrier.new rest.old rest.new post.old post.new }
     {
-        let spare = self.table.shared.split_seat::<Spare>(carrier);
-        let theirs = mem::replace(&mut post.seat, spare);
+        let empty = self.table.shared.split_seat::<EmptySeat>(carrier);
+        let theirs = mem::replace(&mut post.seat, empty);
         self.table.shared.join_seat::<Together>(carrier, theirs);
         let word = self.with_leaders(count, carrier, rest);
         let mine = self.table.shared.split_seat::<FirstLeader>(carrier);
@@ -128,8 +128,8 @@ impl Board {
         ensures { LaggerLooked result carrier.old carrier.new leaders.old leaders.new
             rest.old rest.new post.old post.new }
     {
-        let spare = self.table.shared.split_seat::<Spare>(carrier);
-        let theirs = mem::replace(&mut post.seat, spare);
+        let empty = self.table.shared.split_seat::<EmptySeat>(carrier);
+        let theirs = mem::replace(&mut post.seat, empty);
         self.table.shared.join_seat::<Together>(carrier, theirs);
         let word = self.with_laggers(count, carrier, leaders, rest);
         let mine = self.table.shared.split_seat::<FirstLagger>(carrier);
@@ -145,7 +145,7 @@ impl Board {
         ensures { (n : Named) → AreAllPosts self.now n leaders.old laggers.old
             → CatchesUp n result leaders.old leaders.new laggers.old laggers.new }
     {
-        let mut carrier = self.spare_seat(&mut leaders[0]);
+        let mut carrier = self.empty_seat(&mut leaders[0]);
         let count = leaders.len() as u32;
         let word = self.with_laggers(count, &mut carrier, leaders, laggers);
         fire_cycle(word)

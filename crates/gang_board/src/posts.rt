@@ -6,8 +6,8 @@ ghost use Rattle.gang_board.specs.Seats.{IsLeaderSeat, IsLaggerSeat};
 ghost use Rattle.gang_board.specs.Sights.{sight_of, cycle_of};
 
 use crate::seen::Seen;
-use crate::view::View;
 use atomic_table::Seat;
+use board_rule::view::View;
 
 /// The fire word where no leader has reported.
 pub(crate) const NONE_YET: u64 = u64::MAX;
@@ -15,7 +15,7 @@ pub(crate) const NONE_YET: u64 = u64::MAX;
 /// What a leader lets others know: its position, whether it is halted, and whether it has reported; and what it has
 /// seen of the fire word.
 ///
-/// `specs/Told` has it as a value (`leader`), with the run and the lag that it names and the count of its looks.
+/// `specs/PostStates` has it as a value (`leader`), with the run and the lag that it names and the count of its looks.
 #[derive(Drop)]
 pub struct LeaderPost {
     pub(crate) seat: Seat<u8, View>,
@@ -34,7 +34,7 @@ pub struct LeaderPost {
 
 /// What a lagger lets others know, its position; and what it has seen of each leader.
 ///
-/// `specs/Told` has it as a value (`lagger`), with the run and the lag that it names and the counts of its looks.
+/// `specs/PostStates` has it as a value (`lagger`), with the run and the lag that it names and the counts of its looks.
 #[derive(Drop)]
 pub struct LagPost {
     pub(crate) seat: Seat<u8, View>,

@@ -1,5 +1,5 @@
 pub mod Views
-pub mod LineKeeps
-pub mod SparesKeep
+pub mod TokenSteps
+pub mod ReturnSteps
 pub mod Shapes
 pub mod Closes

@@ -1,4 +1,4 @@
--- Shapes of used tokens, in a vector and by another name of the channel.
+-- Shapes of returned tokens, in a vector and by another name of the channel.
 use Rattle.std.proofs.Common.{◌≡◌, ℕ, zero, suc, ◌<◌, List, [], ◌∷◌, ◌++◌, length, All, get_or, ◌≢◌, refl, sym, ap, subst, ⊎_elim, arith, Result, Ok, Err, is_ok, is_err, if◌then◌else◌, true≢false, false}
 use Rattle.std.proofs.lemmas.Bool.{cases_eq}
 use Rattle.std.proofs.lemmas.List.{length-append}

@@ -1,5 +1,5 @@
 pub mod Names
-pub mod Line
-pub mod Spares
+pub mod TokenRule
+pub mod ReturnRule
 pub mod Ends
-pub mod Told
+pub mod RuledEnds

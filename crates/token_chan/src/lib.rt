@@ -1,18 +1,18 @@
 //! Channels: from one partition of a cut design to another, between threads.
 //!
 //! A channel carries a token for each cycle, in order: what the taker reads of the giver's registers. It is a queue of
-//! tokens under a rule, and a queue of used ones on the way back, so that tokens are filled in place and no call on an
-//! end takes memory.
+//! tokens under a rule, and a queue on the way back for those that the taker returns once it has read them: the giver
+//! fills them anew. So no call on an end takes memory; `Pairs::pair`, `ruled_pair` and `close` alone do.
 //!
 //! Below: `named_run`, the run that contracts name; the kit's `crossbeam_queue`. Above: what runs partitions on
 //! threads, which knows channels by the traits of `ends` and `pairs` alone.
-//! Promise: between any two steps, whoever makes them, a channel's queue holds the run's tokens in order, from the count
-//! taken up to the count given, and at most as many as its depth (`specs/Line`), and the queue on the way back those that
-//! were put and not got, in order, at most as many, each of the channel's shape (`specs/Spares`): these are the rules of
-//! the queues, so no order of steps breaks them. Each end tells its own counts and used tokens, and how far it knows the
-//! other's (`specs/Ends`): what it knows of, it is answered. `catch_up` tells how both stand, and `close` gives all used
-//! tokens. Not said: that a refused call made its own attempt, or that any call returns; calls on ruled ends may wait
-//! behind another thread.
+//! Promise: between any two steps, whoever makes them, a channel's queue holds the run's tokens in order, from the
+//! count taken up to the count given, and at most as many as its depth (`specs/TokenRule`), and the queue on the way
+//! back those that are returned and not reused, in order, at most as many, each of the channel's shape
+//! (`specs/ReturnRule`): these are the rules of the queues, so no order of steps breaks them. The state of an end has
+//! its own counts, and how far it knows the other's (`specs/Ends`): what it knows of, it is answered. `catch_up` says
+//! how both stand, and `close` gives all that wait to be reused. Not said: that a refused call made its own attempt,
+//! or that any call returns; calls on ruled ends may wait behind another thread.
 #![tactic(auto)]
 
 pub mod ends;

@@ -3,7 +3,8 @@
 ghost use Rattle.std.specs.Prelude.{◌≡◌, ◌+◌, ◌≤◌, ℕ, min, All, IfOk, length};
 ghost use Rattle.named_run.specs.Named.{HasShape, token_of};
 ghost use Rattle.token_chan.specs.Names.{name_of};
-ghost use Rattle.token_chan.specs.Ends.{Giver, Taker, AreEnds, AreNewEnds, giver_caught_up, taker_caught_up, TokensStand, UsedStand, IsClosed, most};
+ghost use Rattle.token_chan.specs.Ends.{Giver, Taker, AreEnds, AreNewEnds, giver_caught_up, taker_caught_up};
+ghost use Rattle.token_chan.specs.Ends.{TokensStand, ReturnsStand, IsClosed, last_count};
 
 use crate::ends::{GiveEnd, TakeEnd};
 use dt_core::fault::NoMemory;
@@ -22,8 +23,8 @@ pub trait Pairs: Send {
 
     ghost sent: { Self → ℕ };
 
-    /// A channel that holds the token `first`, of the cycle that it tells, and the used tokens `blanks` for the rest of its
-    /// depth.
+    /// A channel that holds the token `first`, of the cycle that it names, and the tokens `blanks`, to be filled, for
+    /// the rest of its depth.
     fn pair<N: RunName>(
         &self,
         alloc: Global,
@@ -37,29 +38,30 @@ pub trait Pairs: Send {
         requires count { length blanks.items + 1 ≡ depth }
         requires blanks { All (HasShape N.run channel) blanks.items }
         ensures { IfOk result (λ ends. AreNewEnds (name_of N.run channel depth) first.cycle blanks.items
-            (Self.Give.GiveEnd.told ends.0) (Self.Take.TakeEnd.told ends.1)) };
+            (Self.Give.GiveEnd.state ends.0) (Self.Take.TakeEnd.state ends.1)) };
 
     /// Lets each end know the other's counts as they are, and begin to count refusals anew. It tells how the two stand.
     fn catch_up(&self, give: &mut Self::Give, take: &mut Self::Take)
-        requires { AreEnds (Self.Give.GiveEnd.told give.old) (Self.Take.TakeEnd.told take.old) }
-        ensures give { Self.Give.GiveEnd.told give.new
-            ≡ giver_caught_up (Self.Give.GiveEnd.told give.old) (Self.Take.TakeEnd.told take.old) }
-        ensures take { Self.Take.TakeEnd.told take.new
-            ≡ taker_caught_up (Self.Give.GiveEnd.told give.old) (Self.Take.TakeEnd.told take.old) }
-        ensures tokens { TokensStand (Self.Give.GiveEnd.told give.old) (Self.Take.TakeEnd.told take.old) }
-        ensures used { UsedStand (Self.Give.GiveEnd.told give.old) (Self.Take.TakeEnd.told take.old) };
+        requires { AreEnds (Self.Give.GiveEnd.state give.old) (Self.Take.TakeEnd.state take.old) }
+        ensures give { Self.Give.GiveEnd.state give.new
+            ≡ giver_caught_up (Self.Give.GiveEnd.state give.old) (Self.Take.TakeEnd.state take.old) }
+        ensures take { Self.Take.TakeEnd.state take.new
+            ≡ taker_caught_up (Self.Give.GiveEnd.state give.old) (Self.Take.TakeEnd.state take.old) }
+        ensures tokens { TokensStand (Self.Give.GiveEnd.state give.old) (Self.Take.TakeEnd.state take.old) }
+        ensures returns { ReturnsStand (Self.Give.GiveEnd.state give.old) (Self.Take.TakeEnd.state take.old) };
 
-    /// The oldest token of the channel, and all its used tokens. What the giver has given is counted as sent.
+    /// The oldest token of the channel, and all that were returned and wait to be reused. What the giver has given is
+    /// counted as sent.
     fn close(
         &mut self,
         alloc: Global,
         give: Self::Give,
         take: Self::Take,
     ) -> Result<(Option<Token>, Vec<Token>), NoMemory>
-        requires { AreEnds (Self.Give.GiveEnd.told give) (Self.Take.TakeEnd.told take) }
+        requires { AreEnds (Self.Give.GiveEnd.state give) (Self.Take.TakeEnd.state take) }
         ensures tokens { IfOk result (λ r.
-            IsClosed (Self.Give.GiveEnd.told give) (Self.Take.TakeEnd.told take) r.0 r.1.items) }
-        ensures sent { sent self.new ≡ min (sent self.old + (Self.Give.GiveEnd.told give).sent) most };
+            IsClosed (Self.Give.GiveEnd.state give) (Self.Take.TakeEnd.state take) r.0 r.1.items) }
+        ensures sent { sent self.new ≡ min (sent self.old + (Self.Give.GiveEnd.state give).sent) last_count };
 
     /// How many tokens were sent over the channels that were closed.
     fn sent(&self) -> u64

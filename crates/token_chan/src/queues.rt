@@ -4,48 +4,48 @@ ghost use Rattle.std.specs.Prelude.{◌≡◌, true};
 ghost use Rattle.std.specs.Arc.{arc_value};
 ghost use Rattle.crossbeam_queue.specs.Passes.{view, IsPassOf, ruled_capacity};
 
-use crate::rules::{LineRule, SpareRule};
-use crate::view::{SpareView, View};
+use crate::rules::{ReturnRule, TokenRule};
+use crate::view::{ReturnView, TokenView};
 use crossbeam_queue::{Pass, RuledArrayQueue};
 use named_run::token::Token;
 use std::alloc::Global;
 use std::sync::{Arc, Wait};
 
-/// A queue of tokens.
-pub type Line = RuledArrayQueue<Token, View, LineRule>;
+/// A queue of tokens, from the giver to the taker.
+pub type TokenQueue = RuledArrayQueue<Token, TokenView, TokenRule>;
 
-/// A queue of used tokens.
-pub type Spares = RuledArrayQueue<Token, SpareView, SpareRule>;
+/// A queue of returned tokens, from the taker to the giver.
+pub type ReturnQueue = RuledArrayQueue<Token, ReturnView, ReturnRule>;
 
-/// The giving end. `specs/Told` has what it tells.
+/// The giving end. `specs/RuledEnds` has its state.
 #[derive(Drop)]
 pub struct RuledGive<R: Wait + Copy> {
     pub(crate) rt: R,
-    pub(crate) line: Arc<Line, Global>,
-    pub(crate) pass: Pass<Token, View>,
-    pub(crate) spares: Arc<Spares, Global>,
-    pub(crate) spare_pass: Pass<Token, SpareView>,
+    pub(crate) tokens: Arc<TokenQueue, Global>,
+    pub(crate) pass: Pass<Token, TokenView>,
+    pub(crate) returns: Arc<ReturnQueue, Global>,
+    pub(crate) return_pass: Pass<Token, ReturnView>,
     pub(crate) sent: u64,
     pub(crate) refusals: u64,
-    ghost of: { IsPassOf (arc_value line) pass × IsPassOf (arc_value spares) spare_pass },
+    ghost of: { IsPassOf (arc_value tokens) pass × IsPassOf (arc_value returns) return_pass },
     ghost gives: { (view pass).gives ≡ true },
-    ghost deep: { (view pass).name.depth ≡ ruled_capacity (arc_value line) },
-    ghost gets: { (view spare_pass).gets ≡ true },
-    ghost named: { ∥ (view spare_pass).name ≡ (view pass).name ∥₁ },
+    ghost deep: { (view pass).name.depth ≡ ruled_capacity (arc_value tokens) },
+    ghost reuses: { (view return_pass).reuses ≡ true },
+    ghost named: { ∥ (view return_pass).name ≡ (view pass).name ∥₁ },
 }
 
-/// The taking end. `specs/Told` has what it tells.
+/// The taking end. `specs/RuledEnds` has its state.
 #[derive(Drop)]
 pub struct RuledTake<R: Wait + Copy> {
     pub(crate) rt: R,
-    pub(crate) line: Arc<Line, Global>,
-    pub(crate) pass: Pass<Token, View>,
-    pub(crate) spares: Arc<Spares, Global>,
-    pub(crate) spare_pass: Pass<Token, SpareView>,
+    pub(crate) tokens: Arc<TokenQueue, Global>,
+    pub(crate) pass: Pass<Token, TokenView>,
+    pub(crate) returns: Arc<ReturnQueue, Global>,
+    pub(crate) return_pass: Pass<Token, ReturnView>,
     pub(crate) refusals: u64,
-    ghost of: { IsPassOf (arc_value line) pass × IsPassOf (arc_value spares) spare_pass },
+    ghost of: { IsPassOf (arc_value tokens) pass × IsPassOf (arc_value returns) return_pass },
     ghost takes: { (view pass).takes ≡ true },
-    ghost puts: { (view spare_pass).puts ≡ true },
-    ghost deep: { (view pass).name.depth ≡ ruled_capacity (arc_value spares) },
-    ghost named: { ∥ (view spare_pass).name ≡ (view pass).name ∥₁ },
+    ghost hands_back: { (view return_pass).hands_back ≡ true },
+    ghost deep: { (view pass).name.depth ≡ ruled_capacity (arc_value returns) },
+    ghost named: { ∥ (view return_pass).name ≡ (view pass).name ∥₁ },
 }

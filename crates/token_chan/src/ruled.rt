@@ -3,18 +3,18 @@
 ghost use Rattle.std.specs.Prelude.{◌≡◌, ◌++◌, true, All, IfOk, length};
 ghost use Rattle.crossbeam_queue.specs.Passes.{view, IsPassOf};
 ghost use Rattle.named_run.specs.Named.{HasShape};
-ghost use Rattle.token_chan.specs.Ends.{AreEnds, TokensStand, UsedStand};
-ghost use Rattle.token_chan.specs.Told.{give_told, take_told};
+ghost use Rattle.token_chan.specs.Ends.{AreEnds, TokensStand, ReturnsStand};
+ghost use Rattle.token_chan.specs.RuledEnds.{giver_state, taker_state};
 
 use crate::ends::{GiveEnd, TakeEnd};
 use crate::open::ruled_pair;
 use crate::pairs::Pairs;
-use crate::queues::{RuledGive, RuledTake, Spares};
+use crate::queues::{ReturnQueue, RuledGive, RuledTake};
 use crate::rules::{
-    Ends, Gets, GetsLast, Gives, Idle, Puts, SpareEnds, SpareIdle, SpareWhole, Stands, Takes,
-    TakesLast, Whole,
+    Ends, Gives, HandsBack, Idle, ReturnEnds, ReturnIdle, ReturnWhole, Reuses, ReusesLast, Stands,
+    Takes, TakesLast, Whole,
 };
-use crate::view::SpareView;
+use crate::view::ReturnView;
 use crossbeam_queue::Pass;
 use dt_core::fault::NoMemory;
 use named_run::run::RunName;
@@ -24,11 +24,11 @@ use std::mem;
 use std::sync::Wait;
 
 impl<R: Wait + Copy> GiveEnd for RuledGive<R> {
-    ghost told = { give_told };
+    ghost state = { giver_state };
 
     fn give(&mut self, token: Token) -> Result<(), Token> {
         match self
-            .line
+            .tokens
             .push_as::<Gives, R>(&self.rt, &mut self.pass, token)
         {
             Ok(()) => {
@@ -44,8 +44,8 @@ impl<R: Wait + Copy> GiveEnd for RuledGive<R> {
 
     fn blank(&mut self) -> Option<Token> {
         match self
-            .spares
-            .pop_as::<Gets, R>(&self.rt, &mut self.spare_pass)
+            .returns
+            .pop_as::<Reuses, R>(&self.rt, &mut self.return_pass)
         {
             Some(blank) => Some(blank),
             None => {
@@ -57,10 +57,10 @@ impl<R: Wait + Copy> GiveEnd for RuledGive<R> {
 }
 
 impl<R: Wait + Copy> TakeEnd for RuledTake<R> {
-    ghost told = { take_told };
+    ghost state = { taker_state };
 
     fn take(&mut self) -> Option<Token> {
-        match self.line.pop_as::<Takes, R>(&self.rt, &mut self.pass) {
+        match self.tokens.pop_as::<Takes, R>(&self.rt, &mut self.pass) {
             Some(token) => Some(token),
             None => {
                 self.refusals = self.refusals.saturating_add(1);
@@ -71,8 +71,8 @@ impl<R: Wait + Copy> TakeEnd for RuledTake<R> {
 
     fn hand_back(&mut self, token: Token) -> Result<(), Token> {
         match self
-            .spares
-            .push_as::<Puts, R>(&self.rt, &mut self.spare_pass, token)
+            .returns
+            .push_as::<HandsBack, R>(&self.rt, &mut self.return_pass, token)
         {
             Ok(()) => Ok(()),
             Err(token) => {
@@ -118,7 +118,7 @@ impl<R: Wait + Copy + Send + Drop> Pairs for Ruled<R> {
     }
 
     fn catch_up(&self, give: &mut RuledGive<R>, take: &mut RuledTake<R>) {
-        share_used(give, take);
+        share_returns(give, take);
         share_tokens(give, take);
         give.refusals = 0;
         take.refusals = 0;
@@ -133,19 +133,25 @@ impl<R: Wait + Copy + Send + Drop> Pairs for Ruled<R> {
         self.sent = self.sent.saturating_add(give.sent);
         let RuledGive {
             rt,
-            line,
+            tokens,
             mut pass,
-            spares,
-            mut spare_pass,
+            returns,
+            mut return_pass,
             sent: _,
             refusals: _,
         } = give;
-        line.absorb::<Whole>(&mut pass, take.pass);
-        let oldest = line.pop_as::<TakesLast, R>(&rt, &mut pass);
-        spares.absorb::<SpareWhole>(&mut spare_pass, take.spare_pass);
-        spares.learn_as::<GetsLast>(&mut spare_pass);
-        let used = used_tokens::<R>(&rt, alloc, &spares, &mut spare_pass, line.capacity())?;
-        Ok((oldest, used))
+        tokens.absorb::<Whole>(&mut pass, take.pass);
+        let oldest = tokens.pop_as::<TakesLast, R>(&rt, &mut pass);
+        returns.absorb::<ReturnWhole>(&mut return_pass, take.return_pass);
+        returns.learn_as::<ReusesLast>(&mut return_pass);
+        let waiting = waiting_returns::<R>(
+            &rt,
+            alloc,
+            &returns,
+            &mut return_pass,
+            tokens.capacity(),
+        )?;
+        Ok((oldest, waiting))
     }
 
     fn sent(&self) -> u64 {
@@ -155,51 +161,53 @@ impl<R: Wait + Copy + Send + Drop> Pairs for Ruled<R> {
 
 // Lets each end know the other's count of tokens.
 fn share_tokens<R: Wait + Copy>(give: &mut RuledGive<R>, take: &mut RuledTake<R>)
-    requires { AreEnds (give_told give.old) (take_told take.old) }
-    ensures give { give_told give.new ≡ record (give_told give.old) { known = (take_told take.old).taken } }
-    ensures take { take_told take.new ≡ record (take_told take.old) { known = (give_told give.old).given } }
-    ensures stand { TokensStand (give_told give.old) (take_told take.old) }
+    requires { AreEnds (giver_state give.old) (taker_state take.old) }
+    ensures give { giver_state give.new ≡ record (giver_state give.old) { known = (taker_state take.old).taken } }
+    ensures take { taker_state take.new ≡ record (taker_state take.old) { known = (giver_state give.old).given } }
+    ensures stand { TokensStand (giver_state give.old) (taker_state take.old) }
 {
-    let idle = give.line.another::<Idle>(&mut give.pass);
+    let idle = give.tokens.another::<Idle>(&mut give.pass);
     let theirs = mem::replace(&mut take.pass, idle);
-    give.line.absorb::<Whole>(&mut give.pass, theirs);
-    give.line.learn_as::<Stands>(&mut give.pass);
-    let taker_pass = give.line.another::<Ends>(&mut give.pass);
+    give.tokens.absorb::<Whole>(&mut give.pass, theirs);
+    give.tokens.learn_as::<Stands>(&mut give.pass);
+    let taker_pass = give.tokens.another::<Ends>(&mut give.pass);
     drop(mem::replace(&mut take.pass, taker_pass));
 }
 
-// Lets each end know how many used tokens the other got or put.
-fn share_used<R: Wait + Copy>(give: &mut RuledGive<R>, take: &mut RuledTake<R>)
-    requires { AreEnds (give_told give.old) (take_told take.old) }
-    ensures give { give_told give.new ≡ record (give_told give.old) { known_put = length (take_told take.old).put } }
-    ensures take { take_told take.new ≡ record (take_told take.old) { known_got = length (give_told give.old).got } }
-    ensures stand { UsedStand (give_told give.old) (take_told take.old) }
+// Lets each end know how many tokens the other has reused or returned.
+fn share_returns<R: Wait + Copy>(give: &mut RuledGive<R>, take: &mut RuledTake<R>)
+    requires { AreEnds (giver_state give.old) (taker_state take.old) }
+    ensures give { giver_state give.new
+        ≡ record (giver_state give.old) { known_returned = length (taker_state take.old).returned } }
+    ensures take { taker_state take.new
+        ≡ record (taker_state take.old) { known_reused = length (giver_state give.old).reused } }
+    ensures stand { ReturnsStand (giver_state give.old) (taker_state take.old) }
 {
-    let idle = give.spares.another::<SpareIdle>(&mut give.spare_pass);
-    let theirs = mem::replace(&mut take.spare_pass, idle);
-    give.spares
-        .absorb::<SpareWhole>(&mut give.spare_pass, theirs);
-    give.spares.learn_as::<GetsLast>(&mut give.spare_pass);
-    let putter_pass = give.spares.another::<SpareEnds>(&mut give.spare_pass);
-    drop(mem::replace(&mut take.spare_pass, putter_pass));
+    let idle = give.returns.another::<ReturnIdle>(&mut give.return_pass);
+    let theirs = mem::replace(&mut take.return_pass, idle);
+    give.returns
+        .absorb::<ReturnWhole>(&mut give.return_pass, theirs);
+    give.returns.learn_as::<ReusesLast>(&mut give.return_pass);
+    let taker_return_pass = give.returns.another::<ReturnEnds>(&mut give.return_pass);
+    drop(mem::replace(&mut take.return_pass, taker_return_pass));
 }
 
-// All tokens that a queue of used ones holds, by the one pass that gets and puts.
-fn used_tokens<R: Wait>(
+// All tokens that the queue of returned ones holds, by the one pass that reuses and hands back.
+fn waiting_returns<R: Wait>(
     rt: &R,
     alloc: Global,
-    spares: &Spares,
-    pass: &mut Pass<Token, SpareView>,
+    returns: &ReturnQueue,
+    pass: &mut Pass<Token, ReturnView>,
     most: usize,
 ) -> Result<Vec<Token>, NoMemory>
-    requires pass { IsPassOf spares.now pass.old }
-    requires both { ((view pass.old).gets ≡ true) × ((view pass.old).puts ≡ true) }
-    ensures all { IfOk result (λ ts. (view pass.old).got ++ ts.items ≡ (view pass.old).put) }
+    requires pass { IsPassOf returns.now pass.old }
+    requires both { ((view pass.old).reuses ≡ true) × ((view pass.old).hands_back ≡ true) }
+    ensures all { IfOk result (λ ts. (view pass.old).reused ++ ts.items ≡ (view pass.old).returned) }
     ensures shaped { IfOk result (λ ts.
         All (HasShape (view pass.old).name.run (view pass.old).name.channel) ts.items) }
 {
     let mut tokens = Vec::with_capacity(alloc, most)?;
-    while let Some(token) = spares.pop_as::<GetsLast, R>(rt, pass) {
+    while let Some(token) = returns.pop_as::<ReusesLast, R>(rt, pass) {
         if tokens.push(token).is_err() {
             return Err(NoMemory);
         }

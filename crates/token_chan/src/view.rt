@@ -1,4 +1,4 @@
-//! What an end of a channel knows. No value of it is made.
+//! What an end of a channel knows, for contracts alone: no value of it is made.
 
 ghost use Rattle.std.specs.Prelude.{ℕ, Bool, List};
 ghost use Rattle.std.specs.Borrow.{ftrue};
@@ -9,7 +9,7 @@ use std::marker::Model;
 
 /// Whether it gives or takes; the channel; how many tokens were given and taken; and how many the taker knows to be
 /// given and the giver to be taken.
-pub struct View {
+pub struct TokenView {
     pub ghost gives: { Bool },
     pub ghost takes: { Bool },
     pub ghost name: { Name },
@@ -19,22 +19,22 @@ pub struct View {
     pub ghost knows_taken: { ℕ },
 }
 
-impl Model for View {
+impl Model for TokenView {
     ghost also_owns = { λ _. ftrue };
 }
 
-/// Of the queue of used tokens: whether it gets them out or puts them in; the channel; which were got and which put, oldest
-/// first; and how many the getter knows to be put and the putter to be got.
-pub struct SpareView {
-    pub ghost gets: { Bool },
-    pub ghost puts: { Bool },
+/// Of the queue of returned tokens: whether it reuses tokens or hands them back; the channel; which tokens were reused
+/// and which returned, oldest first; and how many the giver knows to be returned and the taker to be reused.
+pub struct ReturnView {
+    pub ghost reuses: { Bool },
+    pub ghost hands_back: { Bool },
     pub ghost name: { Name },
-    pub ghost got: { List Token },
-    pub ghost put: { List Token },
-    pub ghost knows_put: { ℕ },
-    pub ghost knows_got: { ℕ },
+    pub ghost reused: { List Token },
+    pub ghost returned: { List Token },
+    pub ghost knows_returned: { ℕ },
+    pub ghost knows_reused: { ℕ },
 }
 
-impl Model for SpareView {
+impl Model for ReturnView {
     ghost also_owns = { λ _. ftrue };
 }

@@ -1,8 +1,8 @@
 use Rattle.std.proofs.Common.{◌∙◌, rules}
-use Rattle.token_chan.specs.Told.{give_told, take_told}
-use Rattle.token_chan.proofs.LineKeeps.{idles, merges, parts, learns_all}
+use Rattle.token_chan.specs.RuledEnds.{giver_state, taker_state}
+use Rattle.token_chan.proofs.TokenSteps.{idles, merges, parts, learns_all}
 use Rattle.crossbeam_queue.specs.Passes.{view}
-use Rattle.token_chan.specs.Line.{joined_view}
+use Rattle.token_chan.specs.TokenRule.{joined_view}
 use Rattle.token_chan.proofs.Closes.{tokens_stand}
 use Rattle.token_chan.proofs.ruled.share_tokens.Goals as goal
 
@@ -21,6 +21,6 @@ another-taker_pass-requires-clause-rule g c = parts _ _ (search rules) (search r
 pub returns-clause-stand : goal.returns-clause-stand
 returns-clause-stand g c =
     let kept = c.another-idle.ensures.rule.0 in let theirs = c.replace-theirs.ensures.value in let joined = c.absorb.ensures.rule in
-    tokens_stand (give_told c.args.give.now) (take_told c.args.take.now) _
+    tokens_stand (giver_state c.args.give.now) (taker_state c.args.take.now) _
     (joined ∙ (λ i. joined_view (kept i).name (kept i).given (view (theirs i)).taken (view (theirs i)).knows_given (kept i).knows_taken))
     c.learn_as.ensures.rule

@@ -2,9 +2,9 @@ use Rattle.std.proofs.Common.{ℕ, ◌+◌, ◌%◌, ◌^◌, sym, ap, subst, ar
 use mathlib.Core.Option.{none}
 use Rattle.atomic_table.specs.Table.{step, Allows}
 use Rattle.atomic_table.specs.Seated.{TableId}
-use Rattle.gang_board.specs.Rule.{Ruled}
-use Rattle.gang_board.specs.Plays.{lag_raises}
-use Rattle.gang_board.specs.Told.{lagger}
+use Rattle.board_rule.specs.Rule.{Ruled}
+use Rattle.board_rule.specs.Plays.{lag_raises}
+use Rattle.gang_board.specs.PostStates.{lagger}
 use Rattle.gang_board.proofs.PostSeats.{lagger_place_there, lag_raise_allowed}
 use Rattle.gang_board.proofs.board.Board.lag_raise.Goals as goal
 

@@ -2,9 +2,9 @@ use Rattle.std.proofs.Common.{◌≡◌, ℕ, sym, ap, ◌∙◌, subst, arith}
 use mathlib.Core.Option.{none}
 use Rattle.atomic_table.specs.Table.{step, Allows}
 use Rattle.atomic_table.specs.Seated.{TableId}
-use Rattle.gang_board.specs.Rule.{Ruled}
-use Rattle.gang_board.specs.Plays.{sees_leader, number_at}
-use Rattle.gang_board.proofs.Looks.{Looking, looks_begin, all_numbers, look_allowed, fire_allowed, look_told, looked_all}
+use Rattle.board_rule.specs.Rule.{Ruled}
+use Rattle.board_rule.specs.Plays.{sees_leader, number_at}
+use Rattle.gang_board.proofs.Looks.{Looking, looks_begin, all_numbers, look_allowed, fire_allowed, look_seen, looked_all}
 use Rattle.gang_board.proofs.board.Board.look.Goals as goal
 
 pub load-requires : goal.load-requires
@@ -25,7 +25,7 @@ loop-leader-preserved c =
     let inv = c.loop-leader.invariant in let p = c.loop-leader.leader in let place = c.leader_place.ensures in
     let small = c.loop-leader-test.true in let count = c.requires.count.0 in
     let number : number_at c.leader_place.result ≡ p = omega (arith, place) in
-    look_told c.args.carrier.now c.loop-leader.carrier c.load.new.seat p (number_at c.leader_place.result) c.load.result number
+    look_seen c.args.carrier.now c.loop-leader.carrier c.load.new.seat p (number_at c.leader_place.result) c.load.result number
     (all_numbers c.args.self.now c.args.carrier.now c.requires.carrier) (omega (arith, small, count)) inv c.load.ensures.0 c.load.ensures.2
 
 pub loop-leader-init : goal.loop-leader-init

@@ -3,18 +3,18 @@ use Rattle.std.proofs.lemmas.List.FromFn.{length-map-range_with_len}
 use mathlib.Core.Option.{none}
 use Rattle.atomic_table.specs.Seated.{TableId}
 use Rattle.atomic_table.specs.Table.{Me, step, opening, Allows}
-use Rattle.gang_board.specs.Rule.{Ruled, word_count}
-use Rattle.gang_board.specs.Plays.{everybody, names}
+use Rattle.board_rule.specs.Rule.{Ruled, word_count}
+use Rattle.board_rule.specs.Plays.{all_posts, names}
 use Rattle.gang_board.specs.Begins.{first_word}
-use Rattle.gang_board.specs.declared.view.View.{View}
-use Rattle.gang_board.specs.declared.setup.Setup.{Setup}
+use Rattle.board_rule.specs.declared.view.View.{View}
+use Rattle.board_rule.specs.declared.setup.Setup.{Setup}
 use Rattle.gang_board.proofs.Opening.{opens, names_keeps}
 use Rattle.gang_board.proofs.board.Board.new.Goals as goal
 
 pub of_words-requires : goal.of_words-requires
 of_words-requires g c =
     let s : Setup = record { leaders = c.args.leaders; lag = c.args.lag; leader_at = c.args.leader_at; lagger_at = c.args.lagger_at } in
-    subst (λ (ws : List ℕ). Ruled (opening ws [] (everybody s))) (sym (c.deref.ensures.value ∙ c.in_ok-words.ensures))
+    subst (λ (ws : List ℕ). Ruled (opening ws [] (all_posts s))) (sym (c.deref.ensures.value ∙ c.in_ok-words.ensures))
     (opens s c.requires.count.0 c.requires.begins.behind)
 
 pub load-requires : goal.load-requires

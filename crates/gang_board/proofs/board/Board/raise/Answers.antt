@@ -2,9 +2,9 @@ use Rattle.std.proofs.Common.{ℕ, ◌+◌, ◌%◌, ◌^◌, sym, ap, subst, ar
 use mathlib.Core.Option.{none}
 use Rattle.atomic_table.specs.Table.{step, Allows}
 use Rattle.atomic_table.specs.Seated.{TableId}
-use Rattle.gang_board.specs.Rule.{Ruled}
-use Rattle.gang_board.specs.Plays.{raises}
-use Rattle.gang_board.specs.Told.{leader}
+use Rattle.board_rule.specs.Rule.{Ruled}
+use Rattle.board_rule.specs.Plays.{raises}
+use Rattle.gang_board.specs.PostStates.{leader}
 use Rattle.gang_board.proofs.PostSeats.{leader_place_there, raise_allowed}
 use Rattle.gang_board.proofs.board.Board.raise.Goals as goal
 

@@ -3,7 +3,7 @@ use mathlib.Core.Option.{none}
 use Rattle.atomic_table.specs.Table.{step}
 use Rattle.atomic_table.specs.Seated.{TableId}
 use Rattle.named_run.proofs.RunLaws.{fires_below}
-use Rattle.gang_board.specs.Told.{leader}
+use Rattle.gang_board.specs.PostStates.{leader}
 use Rattle.gang_board.proofs.PostSeats.{fire_place_there, report_allowed}
 use Rattle.gang_board.proofs.board.Board.report_fire.Goals as goal
 

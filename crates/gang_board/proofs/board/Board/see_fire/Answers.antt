@@ -2,7 +2,7 @@ use Rattle.std.proofs.Common.{ap, arith}
 use mathlib.Core.Option.{none}
 use Rattle.atomic_table.specs.Table.{step}
 use Rattle.atomic_table.specs.Seated.{TableId}
-use Rattle.gang_board.specs.Told.{leader}
+use Rattle.gang_board.specs.PostStates.{leader}
 use Rattle.gang_board.proofs.PostSeats.{fire_place_there, see_fire_allowed}
 use Rattle.gang_board.proofs.board.Board.see_fire.Goals as goal
 

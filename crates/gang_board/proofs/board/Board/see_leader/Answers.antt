@@ -4,12 +4,12 @@ use mathlib.Core.Option.{none}
 use Rattle.atomic_table.specs.Table.{step, Allows}
 use Rattle.atomic_table.specs.Seated.{TableId}
 use Rattle.token_net.specs.Posts.{Sight, with_sight}
-use Rattle.gang_board.specs.Views.{HeldLagger}
-use Rattle.gang_board.specs.Rule.{Ruled}
-use Rattle.gang_board.specs.Plays.{sees_leader, saw_leader, told, number_at}
+use Rattle.board_rule.specs.Views.{HeldLagger}
+use Rattle.board_rule.specs.Rule.{Ruled}
+use Rattle.board_rule.specs.Plays.{sees_leader, saw_leader, sight_in, number_at}
 use Rattle.gang_board.specs.Seats.{IsLaggerSeat, lagger_looks_of}
 use Rattle.gang_board.specs.Sights.{sight_of}
-use Rattle.gang_board.specs.Told.{lagger}
+use Rattle.gang_board.specs.PostStates.{lagger}
 use Rattle.gang_board.specs.declared.seen.Seen.{Seen}
 use Rattle.gang_board.proofs.PostSeats.{seen_place_there, see_leader_allowed, lagger_after}
 use Rattle.gang_board.proofs.board.Board.see_leader.Goals as goal
@@ -36,12 +36,12 @@ invariant_of-post c =
     let has : HeldLagger = record { number = p.number; post = lagger p; looks = lagger_looks_of p.seat.me.0.laggers } in
     let has_post : ℕ → HeldLagger = λ k. record {
       number = p.number;
-      post = with_sight k (told f) (lagger p);
-      looks = (saw_leader (number_at c.leader_place.result) (told f) has).looks;
+      post = with_sight k (sight_in f) (lagger p);
+      looks = (saw_leader (number_at c.leader_place.result) (sight_in f) has).looks;
     } in
     let sights = map-set sight_of p.sights.items at seen in
-    let after = lagger_after p.seat.table_id.words p.number (lagger p) p.seat.me p.is (saw_leader (number_at c.leader_place.result) (told f))
-    c.load-found.new.seat.me saw.0 (with_sight at (told f) (lagger p))
+    let after = lagger_after p.seat.table_id.words p.number (lagger p) p.seat.me p.is (saw_leader (number_at c.leader_place.result) (sight_in f))
+    c.load-found.new.seat.me saw.0 (with_sight at (sight_in f) (lagger p))
     (ap (λ (k : ℕ). has_post k) number)
     (length-set (lagger_looks_of p.seat.me.0.laggers) (number_at c.leader_place.result) _ ∙ p.is.looked) saw.1.0 in
     record {

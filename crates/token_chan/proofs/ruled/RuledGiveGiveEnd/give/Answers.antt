@@ -1,5 +1,5 @@
 use Rattle.std.proofs.Common.{sym, ap, ◌∙◌}
-use Rattle.token_chan.proofs.LineKeeps.{sends, learns_full}
+use Rattle.token_chan.proofs.TokenSteps.{sends, learns_full}
 use Rattle.token_chan.proofs.ruled.RuledGiveGiveEnd.give.Goals as goal
 
 pub push_as-requires-clause-rule : goal.push_as-requires-clause-rule

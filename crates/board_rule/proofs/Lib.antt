@@ -1,0 +1,6 @@
+pub mod Lists
+pub mod Words
+pub mod PostsSteps
+pub mod Keeps
+pub mod Steps
+pub mod Seated
