@@ -1,1 +1,4 @@
 pub mod Bare
+pub mod Wide
+pub mod Failing
+pub mod Idle

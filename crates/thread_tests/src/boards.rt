@@ -1,13 +1,13 @@
-//! Boards.
+//! Boards, on one thread and on many.
 
 ghost use Rattle.std.specs.Prelude.{◌≡◌, ◌+◌, ◌<◌, [], false, slice_index_or};
 ghost use Rattle.named_run.specs.Named.{end_of};
 ghost use Rattle.token_net.specs.Posts.{none_yet};
-ghost use Rattle.gang_board.specs.Told.{leader, leader_named, IsLeaderOf};
+ghost use Rattle.gang_board.specs.PostStates.{leader, leader_named, IsLeaderOf};
 
+use crate::leaders_and_laggers::{FAILURE, LAG, run_to_end};
 use gang_board::board::Board;
 use gang_board::posts::LeaderPost;
-use gang_board::seen::Seen;
 use std::marker::Brand;
 use std::test::*;
 
@@ -33,5 +33,24 @@ fn two_raises_are_seen(rt: HostRuntime) -> Result<(), Fail> {
     let seen = board.see_leader(&mut laggers[0], 0);
     assert_eq!(rt; seen.position, 2);
     assert!(rt; !seen.halted);
+    Ok(())
+}
+
+// Sixteen leaders go on to the failure, report it, see it and halt, while sixteen laggers stay the lag behind. Then all
+// posts are brought up to date.
+#[test]
+fn sixteen_leaders_and_laggers(rt: HostRuntime) -> Result<(), Fail> {
+    let (board, mut leaders, mut laggers) = Board::new::<Brand>(rt.alloc(), 16, 8, 0, 0)?;
+    let fire = run_to_end(&rt, &board, &mut leaders, &mut laggers);
+    assert_eq!(rt; fire, Some(FAILURE));
+    for post in &leaders {
+        assert_eq!(rt; post.position(), FAILURE);
+        assert!(rt; post.has_reported());
+        assert_eq!(rt; post.seen_fire(), Some(FAILURE));
+        assert!(rt; post.is_halted());
+    }
+    for post in &laggers {
+        assert_eq!(rt; post.position(), FAILURE - LAG);
+    }
     Ok(())
 }

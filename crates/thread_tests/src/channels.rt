@@ -1,35 +1,26 @@
-//! Channels.
+//! Channels, on one thread and between two.
 
 ghost use Rattle.std.specs.Prelude.{◌≡◌, ◌+◌, [], if◌then◌else◌};
-ghost use Rattle.token_chan.specs.Told.{give_told};
+ghost use Rattle.token_chan.specs.RuledEnds.{giver_state, taker_state};
 ghost use Rattle.thread_tests.specs.Runs.{quiet};
 
-use named_run::token::{Token, Values};
+use crate::tokens::{Pauses, bare, between_threads, on_one_thread};
 use std::alloc::Global;
 use std::marker::Brand;
 use std::sync::Wait;
 use std::test::*;
 use token_chan::ends::{GiveEnd, TakeEnd};
 use token_chan::open::ruled_pair;
-use token_chan::queues::RuledGive;
-
-// The token of a channel that carries no register.
-fn bare(alloc: Global, cycle: u64) -> Token
-    ensures { result ≡ record { channel = 0; cycle = cycle; values = [] } }
-{
-    Token {
-        channel: 0,
-        cycle,
-        values: Values::new(Vec::new(alloc)),
-    }
-}
+use token_chan::pairs::Pairs;
+use token_chan::queues::{RuledGive, RuledTake};
+use token_chan::ruled::Ruled;
 
 // Gives the token of this cycle; whether it was taken in.
 fn give_next<R: Wait + Copy>(give: &mut RuledGive<R>, alloc: Global, cycle: u64) -> bool
-    requires name { (give_told give.old).name ≡ record { run = quiet; channel = 0; depth = 2 } }
-    requires next { (give_told give.old).given ≡ cycle }
-    ensures name { (give_told give.new).name ≡ (give_told give.old).name }
-    ensures given { (give_told give.new).given ≡ (if result then cycle + 1 else cycle) }
+    requires name { (giver_state give.old).name ≡ record { run = quiet; channel = 0; depth = 2 } }
+    requires next { (giver_state give.old).given ≡ cycle }
+    ensures name { (giver_state give.new).name ≡ (giver_state give.old).name }
+    ensures given { (giver_state give.new).given ≡ (if result then cycle + 1 else cycle) }
 {
     give.give(bare(alloc, cycle)).is_ok()
 }
@@ -56,5 +47,81 @@ fn a_channel_of_two(rt: HostRuntime) -> Result<(), Fail> {
     assert_eq!(rt; take.take().map(|token| token.cycle), Some(1));
     assert_eq!(rt; take.take().map(|token| token.cycle), Some(2));
     assert!(rt; give_next(&mut give, alloc, 3));
+    Ok(())
+}
+
+// Takes the oldest token; its cycle.
+fn take_one<R: Wait + Copy>(take: &mut RuledTake<R>) -> Option<u64>
+    ensures name { (taker_state take.new).name ≡ (taker_state take.old).name }
+    ensures queues { (taker_state take.new).queues ≡ (taker_state take.old).queues }
+{
+    match take.take() {
+        Some(token) => Some(token.cycle),
+        None => None,
+    }
+}
+
+// Hands back a token of this cycle; whether there was room.
+fn return_one<R: Wait + Copy>(take: &mut RuledTake<R>, alloc: Global, cycle: u64) -> bool
+    requires name { (taker_state take.old).name ≡ record { run = quiet; channel = 0; depth = 2 } }
+    ensures name { (taker_state take.new).name ≡ (taker_state take.old).name }
+    ensures queues { (taker_state take.new).queues ≡ (taker_state take.old).queues }
+{
+    take.hand_back(bare(alloc, cycle)).is_ok()
+}
+
+// Gets the oldest token that was handed back; its cycle.
+fn reuse_one<R: Wait + Copy>(give: &mut RuledGive<R>) -> Option<u64>
+    ensures name { (giver_state give.new).name ≡ (giver_state give.old).name }
+    ensures queues { (giver_state give.new).queues ≡ (giver_state give.old).queues }
+{
+    match give.blank() {
+        Some(token) => Some(token.cycle),
+        None => None,
+    }
+}
+
+// A channel from which all was taken is closed: no token is left, and of those that were handed back the one that wasn't
+// reused.
+#[test]
+fn an_empty_channel_is_closed(rt: HostRuntime) -> Result<(), Fail> {
+    let alloc = rt.alloc();
+    let mut blanks = Vec::new(alloc);
+    blanks.push(bare(alloc, 0))?;
+    let mut pairs = Ruled::new(rt);
+    let (mut give, mut take) = pairs.pair::<Brand>(alloc, 0, 2, bare(alloc, 0), blanks)?;
+    assert_eq!(rt; reuse_one(&mut give), Some(0));
+    assert_eq!(rt; reuse_one(&mut give), None);
+    assert_eq!(rt; take_one(&mut take), Some(0));
+    assert!(rt; return_one(&mut take, alloc, 7));
+    assert!(rt; return_one(&mut take, alloc, 8));
+    assert!(rt; !return_one(&mut take, alloc, 9));
+    assert_eq!(rt; reuse_one(&mut give), Some(7));
+    let (oldest, waiting) = pairs.close(alloc, give, take)?;
+    assert!(rt; oldest.is_none());
+    assert_eq!(rt; waiting.len(), 1);
+    assert_eq!(rt; waiting[0].cycle, 8);
+    assert_eq!(rt; pairs.sent(), 0);
+    Ok(())
+}
+
+// Tokens of sixteen registers go round.
+#[test]
+fn wide_tokens(rt: HostRuntime) -> Result<(), Fail> {
+    assert_eq!(rt; on_one_thread(rt, rt.alloc(), 1_000)?, 1_000);
+    Ok(())
+}
+
+// A million tokens go through a channel of four in order, though each thread pauses now and then.
+#[test]
+fn a_million_tokens(rt: HostRuntime) -> Result<(), Fail> {
+    let pauses = Pauses {
+        giver: 1_009,
+        taker: 743,
+    };
+    assert_eq!(rt;
+        between_threads(&rt, rt.alloc(), 1_000_000, &pauses)?,
+        1_000_000
+    );
     Ok(())
 }

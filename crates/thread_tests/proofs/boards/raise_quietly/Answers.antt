@@ -1,6 +1,6 @@
 use Rattle.std.proofs.Common.{arith}
 use Rattle.named_run.proofs.RunLaws.{none_owned}
-use Rattle.gang_board.specs.Told.{leader}
+use Rattle.gang_board.specs.PostStates.{leader}
 use Rattle.gang_board.proofs.PostSeats.{leader_bound}
 use Rattle.thread_tests.proofs.boards.raise_quietly.Goals as goal
 

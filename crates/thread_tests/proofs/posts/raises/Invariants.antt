@@ -1,0 +1,5 @@
+use Rattle.thread_tests.specs.Runs.{idle}
+use Rattle.thread_tests.proofs.posts.raises.Given as goal
+
+abbrev pub ghosts-new : goal.ghosts-new
+ghosts-new a = record { run = idle }
