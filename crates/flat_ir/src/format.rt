@@ -8,24 +8,24 @@ ghost use Rattle.flat_ir.specs.Pieces.{CountsItems, JoinsTexts};
 use dt_core::append::{push, push_number};
 use dt_core::fault::NoMemory;
 
-// What was read last: nothing of an item, a percent sign, or a percent sign and a 0.
+/// What was read last: nothing of an item, a percent sign, or a percent sign and a 0.
 #[derive(Clone, Copy)]
-enum Progress {
+pub enum Progress {
     Outside,
     Percent,
     PercentZero,
 }
 
-// What a byte does: it stands for itself, begins an item or goes on in one, ends one that shows the argument, or stands in no item.
+/// What a byte does: it stands for itself, begins an item or goes on in one, ends one that shows the argument, or stands in no item.
 #[derive(Clone, Copy)]
-enum Step {
+pub enum Step {
     Itself,
     Into(Progress),
     Shows,
     Wrong,
 }
 
-fn next_step(progress: Progress, byte: u8) -> Step
+pub fn next_step(progress: Progress, byte: u8) -> Step
     ensures { view.step_of result ≡ spec.step (view.progress_of progress) byte }
 {
     match progress {

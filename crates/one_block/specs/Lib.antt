@@ -1,0 +1,3 @@
+pub mod OneBlock
+pub mod SameDesign
+pub mod Calls
