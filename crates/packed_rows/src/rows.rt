@@ -2,7 +2,6 @@
 
 ghost use Rattle.std.specs.Prelude.{◌≡◌, ◌≤◌, ◌<◌, ◌+◌, ◌++◌, ◌∷◌, [], length, take, slice_index_or, slice_range, IfOk};
 ghost use Rattle.std.specs.List.{All, sum};
-ghost use Rattle.dt_core.specs.declared.limits.TheConstants.{MAX_INPUT_BITS};
 ghost use Rattle.packed_rows.specs.Packed.{Fits, number, packed, unpacked, word_count};
 
 use crate::pack::pack;
@@ -49,7 +48,7 @@ impl PackedRows {
     /// No rows of values of these widths, and room for `most`.
     pub fn new(alloc: Global, widths: Vec<u32>, most: u32) -> Result<PackedRows, NoMemory>
         requires wide { All (λ w. w ≤ MAX_WIDTH) widths.items }
-        requires few { sum widths.items ≤ MAX_INPUT_BITS }
+        requires few { sum widths.items ≤ u32.MAX }
         ensures { IfOk result (λ r. r ≡ record { widths = widths.items; most = most; rows = [] }) }
     {
         let each = bits_of(&widths).div_ceil(64);
@@ -105,7 +104,7 @@ impl PackedRows {
 
 // The bits of values of these widths together.
 fn bits_of(widths: &[u32]) -> usize
-    requires { sum widths.now ≤ MAX_INPUT_BITS }
+    requires { sum widths.now ≤ u32.MAX }
     ensures { result ≡ sum widths.now }
 {
     widths.iter().map(|width| *width as usize).sum()

@@ -1,0 +1,4 @@
+pub mod DraftLaws
+pub mod ElementLaws
+pub mod EventLaws
+mod FormatExamples
