@@ -21,13 +21,13 @@ use Rattle.vl_value.proofs.Build.{here, sized, plain, two, one, name, of, group,
 -- function signed [3:0] f, function [7:0] g, both of one input [7:0], give its low bits; function [7:0] h of two inputs
 -- [7:0] gives the second
 
-abbrev shape : ℕ → ℕ → Bool → Shape
+abbrev pub shape : ℕ → ℕ → Bool → Shape
 shape l r s = record { left = l; right = r; signed = s }
 
 abbrev path : Text → Path
 path t = named t ∷ []
 
-abbrev byte : Shape
+abbrev pub byte : Shape
 byte = shape 7 0 false
 
 abbrev things : List (Text × Thing)
@@ -47,7 +47,7 @@ things =
     (codes "g", routine false (path (codes "g")) byte (byte ∷ [])) ∷
     (codes "h", routine false (path (codes "h")) byte (byte ∷ byte ∷ [])) ∷ []
 
-abbrev found : List (Text × Thing) → Text → Option Thing
+abbrev pub found : List (Text × Thing) → Text → Option Thing
 found [] t = None
 found (e ∷ es) t = if bytes_eq e.0 t then Some e.1 else found es t
 
@@ -508,7 +508,7 @@ constant_unknown = refl
 constant_within : is_constant (found things) (system clog2 (system to_unsigned (plain 1))) ≡ false
 constant_within = refl
 
-constant_bit : is_constant (found things) (of (codes "P") (index (plain 0))) ≡ false
+constant_bit : is_constant (found things) (of (codes "P") (index (plain 0))) ≡ true
 constant_bit = refl
 
 -- ---- What is read

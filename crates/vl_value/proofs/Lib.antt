@@ -1,2 +1,4 @@
 mod Build
 mod Examples
+mod FaultExamples
+pub mod OrderLaws

@@ -13,15 +13,14 @@ use Rattle.vl_value.specs.Things.{Thing, constant}
 abbrev pub Sight : Type 0
 Sight = Text → Option Thing
 
--- a constant has no select
-abbrev pub is_constant_name : Option Thing → Selects → Bool
-is_constant_name (Some (constant w s n)) no_select = true
-is_constant_name _ _ = false
+abbrev pub is_constant_name : Option Thing → Bool
+is_constant_name (Some (constant w s n)) = true
+is_constant_name _ = false
 
 abbrev mutual
   pub is_constant : Sight → Expr → Bool
   is_constant s (number p l) = true
-  is_constant s (read x ks) = is_constant_name (s x.text) ks
+  is_constant s (read x ks) = is_constant_name (s x.text) && selects_constant s ks
   is_constant s (call f es) = false
   is_constant s (system p clog2 e) = is_constant s e
   is_constant s (system p to_signed e) = false
@@ -44,6 +43,17 @@ abbrev mutual
   pub choices_constant : Sight → Choices → Bool
   choices_constant s no_choice = true
   choices_constant s (more_choice e p a hs) = is_constant s e && is_constant s a && choices_constant s hs
+
+  -- a constant has no select, which is another fault (`of_name` in `specs/Faults`): what it reads is constant all the same
+  pub selects_constant : Sight → Selects → Bool
+  selects_constant s no_select = true
+  selects_constant s (more_select p k ks) = select_constant s k && selects_constant s ks
+
+  pub select_constant : Sight → Select → Bool
+  select_constant s (index e) = is_constant s e
+  select_constant s (part a b) = is_constant s a && is_constant s b
+  select_constant s (upward b w) = is_constant s b && is_constant s w
+  select_constant s (downward b w) = is_constant s b && is_constant s w
 
 -- whether a select covers the same bits in each moment; `[a:b]` has constant bounds always
 abbrev pub is_fixed_select : Sight → Select → Bool

@@ -3,3 +3,5 @@ pub mod Things
 pub mod Meaning
 pub mod Constant
 pub mod Reads
+pub mod Order
+pub mod Faults
