@@ -1,7 +1,8 @@
 -- Values that are put into words one after another.
-use Rattle.std.proofs.Common.{◌≡◌, ℕ, suc, ◌+◌, ◌-◌, ◌*◌, ◌/◌, ◌%◌, ◌^◌, ◌<◌, ◌≤◌, List, [], ◌∷◌, ◌++◌, length, take, drop, set, get_or, refl, sym, ap, subst, ◌∙◌, arith, pow_pos, lit<}
+use Rattle.std.proofs.Common.{◌≡◌, ℕ, zero, suc, ◌+◌, ◌-◌, ◌*◌, ◌/◌, ◌%◌, ◌^◌, ◌<◌, ◌≤◌, List, [], ◌∷◌, ◌++◌, length, take, drop, set, get_or, refl, sym, ap, subst, ◌∙◌, arith, pow_pos, lit<}
+use Rattle.std.specs.Prelude.{slice_index}
 use Rattle.std.specs.List.{sum}
-use Rattle.std.proofs.Math.Nat.{add-mul-div_left, add-mul-mod_self_left, mod-eq_of_lt, div-eq_of_lt, pow-le-pow_right}
+use Rattle.std.proofs.Math.Nat.{add-mul-div_left, add-mul-mod_self_left, mod-eq_of_lt, mod-lt, div-eq_of_lt, pow-le-pow_right}
 use Rattle.std.proofs.lemmas.Nat.{pow-add, mul-add-lt, shr_below, shr_split, shr-shr, mod-pow-add, mod_below}
 use Rattle.std.proofs.lemmas.List.{take_more_set, length-take-le, length-set, take_all, drop_more}
 use Rattle.std.proofs.lemmas.List.Sums.{sum_by-cons}
@@ -23,6 +24,24 @@ unpacked_packed (w ∷ ws) (x ∷ xs) f =
     let high : (x + 2 ^ w * p) / 2 ^ w ≡ p = add-mul-div_left x p (pow_pos w) ∙ omega (arith, none) in
     ap (λ (y : ℕ). y ∷ unpacked ws ((x + 2 ^ w * p) / 2 ^ w)) low
     ∙ ap (λ (n : ℕ). x ∷ unpacked ws n) high ∙ ap (λ (ys : List ℕ). x ∷ ys) (unpacked_packed ws xs f.1)
+
+-- what is unpacked fits
+pub unpacked_fits : (ws : List ℕ) (n : ℕ) → Fits ws (unpacked ws n)
+unpacked_fits [] n = tt
+unpacked_fits (w ∷ ws) n = (mod-lt n (pow_pos w), unpacked_fits ws (n / 2 ^ w))
+
+-- each value is below 2 ^ its width
+pub fits_at : (ws xs : List ℕ) (k : ℕ) → Fits ws xs → k < length ws → slice_index xs k < 2 ^ slice_index ws k
+fits_at [] xs k f h = absurd (omega (arith, h))
+fits_at (w ∷ ws) [] k f h = absurd f
+fits_at (w ∷ ws) (x ∷ xs) zero f h = f.0
+fits_at (w ∷ ws) (x ∷ xs) (suc k) f h = fits_at ws xs k f.1 (omega (arith, h))
+
+pub fits_of : (ws xs : List ℕ) → length xs ≡ length ws → ((k : ℕ) → k < length ws → slice_index xs k < 2 ^ slice_index ws k) → Fits ws xs
+fits_of [] [] l h = tt
+fits_of [] (x ∷ xs) l h = absurd (omega (arith, l))
+fits_of (w ∷ ws) [] l h = absurd (omega (arith, l))
+fits_of (w ∷ ws) (x ∷ xs) l h = (h 0 (omega arith), fits_of ws xs (omega (arith, l)) (λ k less. h (suc k) (omega (arith, less))))
 
 -- as many values as widths
 pub fits_length : (ws xs : List ℕ) → Fits ws xs → length xs ≡ length ws

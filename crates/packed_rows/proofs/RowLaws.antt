@@ -1,5 +1,5 @@
 -- Rows in words, one after another.
-use Rattle.std.proofs.Common.{◌≡◌, ℕ, zero, suc, ◌+◌, ◌-◌, ◌*◌, ◌<◌, ◌≤◌, List, [], ◌∷◌, ◌++◌, length, take, drop, get_or, refl, sym, ap, ◌∙◌, arith, mul-le-mul_right}
+use Rattle.std.proofs.Common.{◌≡◌, ℕ, zero, suc, ◌+◌, ◌-◌, ◌*◌, ◌<◌, ◌≤◌, List, [], ◌∷◌, ◌++◌, length, take, drop, get_or, set, refl, sym, ap, ◌∙◌, arith, mul-le-mul_right}
 use Rattle.std.proofs.lemmas.List.{take-take, drop-drop, drop-take}
 use Rattle.packed_rows.specs.Kept.{Kept}
 use Rattle.packed_rows.specs.Packed.{Fits, unpacked, packed, number, rows_in}
@@ -70,6 +70,52 @@ pushed_row ws row each n from old new fits place before here =
     ap (λ (k : ℕ). rows_in ws each k new) one ∙ last_row ws each n new
     ∙ ap (λ (t : List (List ℕ)). t ++ row_at ws each (n * each) new ∷ []) (same_rows ws each n old new stays)
     ∙ ap (λ (r : List ℕ). rows_in ws each n old ++ r ∷ []) its
+
+-- a row takes the place of another one: the words before it and after it stay, and its own are packed
+replaced : (ws row : List ℕ) (each n k : ℕ) (old new : List ℕ) → Fits ws row → k < n
+    → take (k * each) new ≡ take (k * each) old → drop (k * each + each) new ≡ drop (k * each + each) old
+    → number (take each (drop (k * each) new)) ≡ packed ws row → rows_in ws each n new ≡ set (rows_in ws each n old) k row
+replaced ws row each zero k old new fits less before after here = absurd (omega (arith, less))
+replaced ws row each (suc n) zero old new fits less before after here =
+    let none : 0 * each ≡ 0 = omega arith in
+    let one : 0 * each + each ≡ each = omega arith in
+    let its : unpacked ws (number (take each new)) ≡ row =
+    ap (λ (i : ℕ). unpacked ws (number (take each (drop i new)))) (sym none) ∙ ap (unpacked ws) here ∙ unpacked_packed ws row fits in
+    let rest : drop each new ≡ drop each old =
+    ap (λ (i : ℕ). drop i new) (sym one) ∙ after ∙ ap (λ (i : ℕ). drop i old) one in
+    ap (λ (r : List ℕ). r ∷ rows_in ws each n (drop each new)) its ∙ ap (λ (t : List ℕ). row ∷ rows_in ws each n t) rest
+replaced ws row each (suc n) (suc k) old new fits less before after here =
+    let more : suc k * each ≡ each + k * each = omega arith in
+    let beyond : suc k * each + each ≡ each + (k * each + each) = omega arith in
+    let whole : take (each + k * each) new ≡ take (each + k * each) old =
+    ap (λ (i : ℕ). take i new) (sym more) ∙ before ∙ ap (λ (i : ℕ). take i old) more in
+    let within : each ≤ each + k * each = omega arith in
+    let first : take each new ≡ take each old = sym (take-take each (each + k * each) new within)
+    ∙ ap (take each) whole ∙ take-take each (each + k * each) old within in
+    let front : take (k * each) (drop each new) ≡ take (k * each) (drop each old) =
+    sym (drop-take each (k * each) new) ∙ ap (drop each) whole ∙ drop-take each (k * each) old in
+    let back : drop (k * each + each) (drop each new) ≡ drop (k * each + each) (drop each old) =
+    drop-drop (k * each + each) each new ∙ ap (λ (i : ℕ). drop i new) (sym beyond) ∙ after
+    ∙ ap (λ (i : ℕ). drop i old) beyond ∙ sym (drop-drop (k * each + each) each old) in
+    let its : number (take each (drop (k * each) (drop each new))) ≡ packed ws row =
+    ap (λ (t : List ℕ). number (take each t)) (drop-drop (k * each) each new ∙ ap (λ (i : ℕ). drop i new) (sym more)) ∙ here in
+    ap (λ (t : List ℕ). unpacked ws (number t) ∷ rows_in ws each n (drop each new)) first
+    ∙ ap (λ (t : List (List ℕ)). unpacked ws (number (take each old)) ∷ t)
+    (replaced ws row each n k (drop each old) (drop each new) fits (omega (arith, less)) front back its)
+
+pub replaced_row : (ws row : List ℕ) (each n k from : ℕ) (old new : List ℕ) → Fits ws row → k < n → from ≡ k * each
+    → take from new ≡ take from old → drop (from + each) new ≡ drop (from + each) old
+    → number (take (from + each - from) (drop from new)) ≡ packed ws row
+    → rows_in ws each n new ≡ set (rows_in ws each n old) k row
+replaced_row ws row each n k from old new fits less place before after here =
+    let size : each ≡ from + each - from = omega arith in
+    let head : take (k * each) new ≡ take (k * each) old =
+    ap (λ (i : ℕ). take i new) (sym place) ∙ before ∙ ap (λ (i : ℕ). take i old) place in
+    let tail : drop (k * each + each) new ≡ drop (k * each + each) old =
+    ap (λ (i : ℕ). drop (i + each) new) (sym place) ∙ after ∙ ap (λ (i : ℕ). drop (i + each) old) place in
+    let its : number (take each (drop (k * each) new)) ≡ packed ws row =
+    ap (λ (i : ℕ). number (take each (drop i new))) (sym place) ∙ ap (λ (i : ℕ). number (take i (drop from new))) size ∙ here in
+    replaced ws row each n k old new fits less head tail its
 
 -- the place of a row is within the words of all rows
 pub place_within : (k n each long : ℕ) → k < n → long ≡ n * each → k * each + each ≤ long

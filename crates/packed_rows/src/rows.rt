@@ -1,6 +1,6 @@
 //! Rows of the same widths, kept packed.
 
-ghost use Rattle.std.specs.Prelude.{◌≡◌, ◌≤◌, ◌<◌, ◌+◌, ◌++◌, ◌∷◌, [], length, take, slice_index_or, slice_range, IfOk};
+ghost use Rattle.std.specs.Prelude.{◌≡◌, ◌≤◌, ◌<◌, ◌+◌, ◌++◌, ◌∷◌, [], length, take, drop, slice_index_or, slice_set, slice_range, IfOk};
 ghost use Rattle.std.specs.List.{All, sum};
 ghost use Rattle.packed_rows.specs.Packed.{Fits, number, packed, unpacked, word_count};
 
@@ -64,9 +64,17 @@ impl PackedRows {
 
     /// How many rows there are.
     pub fn count(&self) -> u32
-        ensures { result ≡ length self.now.rows }
+        ensures count { result ≡ length self.now.rows }
+        ensures within { result ≤ self.now.most }
     {
         self.count
+    }
+
+    /// For how many rows there is room.
+    pub fn most(&self) -> u32
+        ensures { result ≡ self.now.most }
+    {
+        self.most
     }
 
     /// Appends a row: a value for each width, below 2^width. It takes no memory.
@@ -82,11 +90,24 @@ impl PackedRows {
         self.count += 1;
     }
 
+    /// Puts a row in the place of another one, by its number, from 0. It takes no memory.
+    pub fn replace(&mut self, number: u32, row: &[u128])
+        requires there { number < length self.old.rows }
+        requires fit { Fits self.old.widths row.now }
+        ensures widths { self.new.widths ≡ self.old.widths }
+        ensures most { self.new.most ≡ self.old.most }
+        ensures rows { self.new.rows ≡ slice_set self.old.rows number row.now }
+    {
+        let from = number as usize * self.each;
+        pack_at(&self.widths, row, &mut self.words, from, self.each);
+    }
+
     /// Copies a row by its number, from 0. It takes no memory.
     pub fn read(&self, number: u32, row: &mut [u128])
         requires there { number < length self.now.rows }
         requires size { length row.old ≡ length self.now.widths }
-        ensures { row.new ≡ slice_index_or self.now.rows number [] }
+        ensures row { row.new ≡ slice_index_or self.now.rows number [] }
+        ensures fit { Fits self.now.widths row.new }
     {
         let from = number as usize * self.each;
         unpack_at(&self.widths, &self.words, from, self.each, row);
@@ -118,6 +139,7 @@ fn pack_at(widths: &[u32], row: &[u128], words: &mut [u64], from: usize, each: u
     requires each { each ≡ word_count (sum widths.now) }
     requires within { from + each ≤ length words.old }
     ensures before { take from words.new ≡ take from words.old }
+    ensures after { drop (from + each) words.new ≡ drop (from + each) words.old }
     ensures row { number (slice_range words.new from (from + each)) ≡ packed widths.now row.now }
 {
     pack(widths, row, &mut words[from..from + each]);

@@ -1,0 +1,3 @@
+pub mod UndoLaws
+pub mod Groups
+pub mod JournalLaws
