@@ -1,0 +1,10 @@
+pub mod Variables
+pub mod Tree
+pub mod Shown
+pub mod Outline
+pub mod Stops
+pub mod Path
+pub mod Named
+pub mod Links
+pub mod Walk
+pub mod Laws

@@ -1,0 +1,4 @@
+use Rattle.waveform.proofs.lines.+push_code.Given as goal
+
+abbrev pub decreases-push_code : goal.decreases-push_code
+decreases-push_code l = l.number

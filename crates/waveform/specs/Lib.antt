@@ -1,0 +1,6 @@
+pub mod Vcd
+pub mod Reader
+pub mod Writer
+pub mod Writes
+pub mod Cycle
+pub mod Heading
