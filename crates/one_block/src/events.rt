@@ -69,7 +69,7 @@ fn tell(
 
 // Adds an event.
 fn add(events: &mut Vec<Event>, condition: u32, effect: Effect) -> Result<(), NoMemory>
-    ensures { OnOk result (events.new.items ≡ events.old.items ++ record { condition = condition; effect = effect } ∷ []) }
+    ensures { OnOk result (events.new.items ≡ events.old.items ++ spec.event condition effect ∷ []) }
 {
     lists::append(events, Event { condition, effect })
 }
@@ -97,7 +97,8 @@ fn show(
     format: &[u8],
     node: u32,
 ) -> Result<(), NoMemory>
-    ensures { OnOk result (spec.AddsText condition node (λ xs. format_text format.now (slice_index xs node ∷ []) ++ 10 ∷ []) events.old.items events.new.items) }
+    ensures { let t : List ℕ → List ℕ = spec.shown_line format.now node in
+        OnOk result (spec.AddsText condition node t events.old.items events.new.items) }
 {
     let front = front_of(alloc, format)?;
     let mut text = front.text;

@@ -1,7 +1,7 @@
 //! A numbered design of one clocked block as a design of a hierarchy.
 //!
-//! Below: `dt_core`, `bit_ops`, `flat_ir` (the design that is given), `netlist` (the one that is made). Above: `vl_proc`,
-//! whose designs are such that they can be given, and `vl_front`, which gives them.
+//! Below: `dt_core`, `bit_ops`, `flat_ir` (the design that is given), `netlist` (the one that is made). Above:
+//! `vl_proc`, whose designs can be given, and what runs designs of a hierarchy alone.
 //! Promise: `convert` answers out of memory, or a design with one scope, the same signals and the same run: with every
 //! row and every state that fit, what the old design shows settles and nothing else does, and the next state and what
 //! fires are the same (`specs/SameDesign`). `specs/OneBlock` says what a design must be for that.

@@ -1,10 +1,11 @@
 //! Nodes that have the values of the old design's nodes.
 
-ghost use Rattle.std.specs.Prelude.{◌≡◌, ◌==◌, ◌&&◌, ◌<◌, ◌^◌, [], ◌∷◌, ◌++◌, IfOk, OnOk, Some, length, slice_get};
-ghost use Rattle.bit_ops.specs.Operators.{low, add, bit, holds};
+ghost use Rattle.std.specs.Prelude.{◌≡◌, ◌==◌, ◌&&◌, ◌<◌, ◌^◌, [], ◌∷◌, ◌++◌, IfOk, OnOk, length};
+ghost use Rattle.bit_ops.specs.Operators.{add, bit, holds};
 ghost use Rattle.flat_ir.specs.FlatRun as run;
 ghost use Rattle.netlist.specs.Fits.{IsWidth};
 ghost use Rattle.one_block.specs.Calls.Nodes as calls;
+ghost use Rattle.one_block.specs.Calls.Table as tables;
 
 use crate::lists::append;
 use crate::made::Made;
@@ -23,10 +24,11 @@ pub(crate) fn made_nodes(
     table: &Table,
     plain: &[plain::Node],
 ) -> Result<Vec<Made>, NoMemory>
-    requires there { calls.AreBelow (length table.now.signals.items) table.now.inputs.items }
-    requires fits { calls.AllFit (length table.now.inputs.items) (length table.now.registers.items) plain.now }
+    requires there { tables.HasInputs table.now }
+    requires fits { tables.AllFitIn table.now plain.now }
     ensures count { IfOk result (λ made. length made.items ≡ length plain.now) }
-    ensures made { (p : run.Flat) → plain.now ≡ p.nodes → calls.Led p table.now.signals.items table.now.inputs.items table.now.registers.items nodes.old [] → IfOk result (λ made. calls.MakesAll p nodes.old nodes.new made.items) }
+    ensures made { (p : run.Flat) → plain.now ≡ p.nodes → tables.LedBy p table.now nodes.old []
+        → IfOk result (λ made. calls.MakesAll p nodes.old nodes.new made.items) }
 {
     let mut made = Vec::new(alloc);
     for node in plain {
@@ -43,9 +45,9 @@ fn made_node(
     made: &[Made],
     node: &plain::Node,
 ) -> Result<Made, NoMemory>
-    requires there { calls.AreBelow (length table.now.signals.items) table.now.inputs.items }
-    requires fits { run.NodeFits (length table.now.inputs.items) (length table.now.registers.items) (length made.now) node.now }
-    ensures { (p : run.Flat) → slice_get p.nodes (length made.now) ≡ Some node.now → calls.Led p table.now.signals.items table.now.inputs.items table.now.registers.items nodes.old made.now → IfOk result (λ m. calls.Makes p nodes.old nodes.new m (calls.node_of p (length made.now))) }
+    requires there { tables.HasInputs table.now }
+    requires fits { tables.FitsIn table.now (length made.now) node.now }
+    ensures { tables.IsNext table.now nodes.old nodes.new made.now node.now result }
 {
     match *node {
         plain::Node::Constant(value) => nodes.add(width_of(value), Operation::Constant { value }),
@@ -75,7 +77,7 @@ fn width_of(value: u128) -> u32
 
 /// A node at a width: extended by zeros, or cut.
 pub(crate) fn fitted(nodes: &mut Nodes, of: Made, width: u32) -> Result<Made, NoMemory>
-    ensures { (p : run.Flat) (v : calls.Value) → IsWidth width → calls.HasValue p nodes.old of v → IfOk result (λ m. (m.width ≡ width) × calls.Makes p nodes.old nodes.new m (λ row state. low width (v row state))) }
+    ensures { calls.IsFitted nodes.old nodes.new of width result }
 {
     if of.width < width {
         nodes.add(
@@ -94,7 +96,7 @@ pub(crate) fn fitted(nodes: &mut Nodes, of: Made, width: u32) -> Result<Made, No
 
 // The sum of two nodes at a width.
 fn sum(nodes: &mut Nodes, left: Made, right: Made, width: u32) -> Result<Made, NoMemory>
-    ensures { (p : run.Flat) (a b : calls.Value) → IsWidth width → calls.HasValue p nodes.old left a → calls.HasValue p nodes.old right b → IfOk result (λ m. calls.Makes p nodes.old nodes.new m (λ row state. add width (a row state) (b row state))) }
+    ensures { IsWidth width → calls.IsOfTwo nodes.old nodes.new left right (add width) result }
 {
     let left = fitted(nodes, left, width)?;
     let right = fitted(nodes, right, width)?;
@@ -103,7 +105,7 @@ fn sum(nodes: &mut Nodes, left: Made, right: Made, width: u32) -> Result<Made, N
 
 // Whether two nodes are equal: both at the greater width.
 fn equality(nodes: &mut Nodes, left: Made, right: Made) -> Result<Made, NoMemory>
-    ensures { (p : run.Flat) (a b : calls.Value) → calls.HasValue p nodes.old left a → calls.HasValue p nodes.old right b → IfOk result (λ m. calls.Makes p nodes.old nodes.new m (λ row state. bit (a row state == b row state))) }
+    ensures { calls.IsOfTwo nodes.old nodes.new left right (λ a b. bit (a == b)) result }
 {
     let width = left.width.max(right.width);
     let left = fitted(nodes, left, width)?;
@@ -113,7 +115,7 @@ fn equality(nodes: &mut Nodes, left: Made, right: Made) -> Result<Made, NoMemory
 
 // Whether a node is 0.
 fn negation(nodes: &mut Nodes, of: Made) -> Result<Made, NoMemory>
-    ensures { (p : run.Flat) (v : calls.Value) → calls.HasValue p nodes.old of v → IfOk result (λ m. calls.Makes p nodes.old nodes.new m (λ row state. bit (v row state == 0))) }
+    ensures { calls.IsOfOne nodes.old nodes.new of (λ v. bit (v == 0)) result }
 {
     nodes.add(
         1,
@@ -126,7 +128,7 @@ fn negation(nodes: &mut Nodes, of: Made) -> Result<Made, NoMemory>
 
 // Whether neither of two nodes is 0.
 fn conjunction(nodes: &mut Nodes, left: Made, right: Made) -> Result<Made, NoMemory>
-    ensures { (p : run.Flat) (a b : calls.Value) → calls.HasValue p nodes.old left a → calls.HasValue p nodes.old right b → IfOk result (λ m. calls.Makes p nodes.old nodes.new m (λ row state. bit (holds (a row state) && holds (b row state)))) }
+    ensures { calls.IsOfTwo nodes.old nodes.new left right (λ a b. bit (holds a && holds b)) result }
 {
     binary(nodes, Binary::LogicAnd, left, right, 1)
 }

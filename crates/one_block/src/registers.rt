@@ -2,8 +2,6 @@
 
 ghost use Rattle.std.specs.Prelude.{◌≡◌, ◌<◌, ℕ, [], ◌∷◌, ◌++◌, List, IfOk, OnOk, length, map, if◌then◌else◌};
 ghost use Rattle.flat_ir.specs.FlatRun as run;
-ghost use Rattle.flat_ir.specs.declared.design.Action as action_type;
-ghost use Rattle.bit_ops.specs.Operators.{low, holds};
 ghost use Rattle.one_block.specs.OneBlock.{IsOneBlock};
 ghost use Rattle.one_block.specs.SameDesign.{register_ranges};
 ghost use Rattle.one_block.specs.Calls.Nodes as calls;
@@ -28,7 +26,9 @@ pub(crate) fn next_nodes(
 ) -> Result<Vec<u32>, NoMemory>
     requires { spec.ActionsFit (length registers.now) (length made.now) actions.now }
     ensures count { IfOk result (λ next. length next.items ≡ length registers.now) }
-    ensures next { (p : run.Flat) → IsOneBlock p → registers.now ≡ register_ranges 0 p.signals → calls.Stands p nodes.old made.now → IfOk result (λ next. spec.Takes p nodes.old nodes.new registers.now next.items actions.now) }
+    ensures next { (p : run.Flat) → IsOneBlock p → registers.now ≡ register_ranges 0 p.signals
+        → calls.Stands p nodes.old made.now
+        → IfOk result (λ next. spec.Takes p nodes.old nodes.new registers.now next.items actions.now) }
 {
     let mut next = own_nodes(alloc, registers)?;
     for action in actions {
@@ -55,7 +55,8 @@ fn write(
     requires count { length next.old.items ≡ length registers.now }
     requires fits { spec.ActionFits (length registers.now) (length made.now) action.now }
     ensures count { length next.new.items ≡ length registers.now }
-    ensures next { (p : run.Flat) (done : List action_type.Action) → calls.Stands p nodes.old made.now → length registers.now ≡ length p.registers → spec.AreNext p nodes.old registers.now next.old.items done → OnOk result (spec.Takes p nodes.old nodes.new registers.now next.new.items (done ++ action.now ∷ [])) }
+    ensures next { spec.IsTaken nodes.old nodes.new registers.now made.now next.old.items next.new.items
+        action.now result }
 {
     if let Deed::Write(register, value) = &action.deed {
         let place = *register as usize;
@@ -72,7 +73,7 @@ fn write(
 
 // The value, in the width of the other one, where the condition isn't 0, else the other one.
 fn choice(nodes: &mut Nodes, condition: Made, value: Made, other: Made) -> Result<Made, NoMemory>
-    ensures { (p : run.Flat) (c v o : calls.Value) → calls.HasValue p nodes.old condition c → calls.HasValue p nodes.old value v → calls.HasValue p nodes.old other o → IfOk result (λ m. (m.width ≡ other.width) × calls.Makes p nodes.old nodes.new m (λ row state. if holds (c row state) then low other.width (v row state) else o row state)) }
+    ensures { calls.IsChoice nodes.old nodes.new condition value other result }
 {
     let value = fitted(nodes, value, other.width)?;
     nodes.add(

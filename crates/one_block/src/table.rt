@@ -44,7 +44,8 @@ impl Table {
 
     // Adds a signal.
     fn add(&mut self, alloc: Global, signal: &plain::Signal) -> Result<(), NoMemory>
-        ensures signals { OnOk result (self.new.signals.items ≡ self.old.signals.items ++ same.signal_of signal.now ∷ []) }
+        ensures signals { let old = self.old.signals.items in
+            OnOk result (self.new.signals.items ≡ old ++ same.signal_of signal.now ∷ []) }
         ensures inputs { self.new.inputs ≡ self.old.inputs }
         ensures registers { self.new.registers ≡ self.old.registers }
     {
@@ -63,7 +64,8 @@ impl Table {
     fn place(&mut self, number: u32, width: u32, role: plain::Role) -> Result<(), AllocError>
         ensures signals { self.new.signals ≡ self.old.signals }
         ensures inputs { OnOk result (self.new.inputs.items ≡ self.old.inputs.items ++ same.input_place number role) }
-        ensures registers { OnOk result (self.new.registers.items ≡ self.old.registers.items ++ same.register_range number width role) }
+        ensures registers { let old = self.old.registers.items in
+            OnOk result (self.new.registers.items ≡ old ++ same.register_range number width role) }
     {
         match role {
             plain::Role::Clock => {}

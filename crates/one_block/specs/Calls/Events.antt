@@ -26,6 +26,14 @@ shown_as node = record { node = node; signed = false; base = b.Decimal; fewest =
 abbrev pub said_line : ℕ → List ℕ → Event
 said_line condition format = record { condition = condition; effect = e.Said (format_text format [] ++ 10 ∷ []) }
 
+-- the same of one that shows a node
+abbrev pub shown_line : List ℕ → ℕ → List ℕ → List ℕ
+shown_line format node xs = format_text format (slice_index xs node ∷ []) ++ 10 ∷ []
+
+-- an event of this condition
+abbrev pub event : ℕ → Effect → Event
+event condition effect = record { condition = condition; effect = effect }
+
 -- a text that is said, if it isn't empty
 abbrev pub texts_of : ℕ → List ℕ → List Event
 texts_of condition [] = []

@@ -1,6 +1,8 @@
 -- Nodes of a design that have values of an old one. This project's own.
-use Rattle.std.specs.Prelude.{◌≡◌, ℕ, false, ◌+◌, ◌^◌, ◌<◌, List, [], ◌∷◌, ◌++◌, length, map, slice_get, slice_index, slice_index_or, Some}
+use Rattle.std.specs.Prelude.{◌≡◌, ℕ, false, if◌then◌else◌, ◌+◌, ◌^◌, ◌<◌, List, [], ◌∷◌}
+use Rattle.std.specs.Prelude.{◌++◌, length, map, slice_get, slice_index, slice_index_or, Result, Some, IfOk}
 use Rattle.std.specs.Option.{option_map, unwrap_or}
+use Rattle.bit_ops.specs.Operators.{low, holds}
 use Rattle.flat_ir.specs.FlatRun as plain
 use Rattle.flat_ir.specs.Shown.{flat_shown}
 use Rattle.flat_ir.specs.declared.design.Signal as old_signal
@@ -93,6 +95,28 @@ pub record Makes (p : plain.Flat) (from to : List Node) (m : Made) (value : Valu
   pub grown : Grows (map signal_of p.signals) from to
   pub has : HasValue p to m value
 
+-- ---- what calls give
+
+-- of a node one of this width, which has its low bits
+abbrev pub IsFitted : {E : Type 0} → List Node → List Node → Made → ℕ → Result Made E → Type 0
+IsFitted from to of width result = (p : plain.Flat) (v : Value) → IsWidth width → HasValue p from of v
+    → IfOk result (λ m. (m.width ≡ width) × Makes p from to m (λ row state. low width (v row state)))
+
+-- of a node one that has this function of its value, and the same of two
+abbrev pub IsOfOne : {E : Type 0} → List Node → List Node → Made → (ℕ → ℕ) → Result Made E → Type 0
+IsOfOne from to of f result = (p : plain.Flat) (v : Value) → HasValue p from of v
+    → IfOk result (λ m. Makes p from to m (λ row state. f (v row state)))
+
+abbrev pub IsOfTwo : {E : Type 0} → List Node → List Node → Made → Made → (ℕ → ℕ → ℕ) → Result Made E → Type 0
+IsOfTwo from to left right f result = (p : plain.Flat) (a b : Value) → HasValue p from left a → HasValue p from right b
+    → IfOk result (λ m. Makes p from to m (λ row state. f (a row state) (b row state)))
+
+-- of a condition and two nodes one that has the low bits of the first where the condition isn't 0, else the second
+abbrev pub IsChoice : {E : Type 0} → List Node → List Node → Made → Made → Made → Result Made E → Type 0
+IsChoice from to condition value other result = (p : plain.Flat) (c v o : Value) → HasValue p from condition c
+    → HasValue p from value v → HasValue p from other o → IfOk result (λ m. (m.width ≡ other.width)
+    × Makes p from to m (λ row state. if holds (c row state) then low other.width (v row state) else o row state))
+
 -- ---- where a node is made
 
 -- an unsigned operator on two nodes
@@ -101,7 +125,8 @@ binary width operator a b = record { width = width; operation = o.Binary operato
 
 -- each of the old design's nodes reads lower ones, and inputs and registers that are there
 abbrev pub AllFit : ℕ → ℕ → List old_node.Node → Type 0
-AllFit inputs registers nodes = (k : ℕ) (x : old_node.Node) → slice_get nodes k ≡ Some x → plain.NodeFits inputs registers k x
+AllFit inputs registers nodes = (k : ℕ) (x : old_node.Node) → slice_get nodes k ≡ Some x
+    → plain.NodeFits inputs registers k x
 
 abbrev pub made_at : List Made → ℕ → Made
 made_at made k = slice_index_or made k (record { node = 0; width = 0 })
@@ -113,7 +138,8 @@ pub record Stands (p : plain.Flat) (nodes : List Node) (made : List Made) : Type
   pub each : (k : ℕ) → k < length made → HasValue p nodes (made_at made k) (node_of p k)
 
 -- what led to a node more: the old design, its table, and the nodes so far
-pub record Led (p : plain.Flat) (signals : List Signal) (inputs : List ℕ) (registers : List Range) (nodes : List Node) (made : List Made) : Type 0 where
+pub record Led (p : plain.Flat) (signals : List Signal) (inputs : List ℕ) (registers : List Range) (nodes : List Node)
+    (made : List Made) : Type 0 where
   pub is_block : IsOneBlock p
   pub well : plain.IsWellFormed p
   pub table : IsTable p signals inputs registers

@@ -23,7 +23,7 @@ returns-in-Register c = λ p at led.
 pub returns-in-Sum : goal.returns-in-Sum
 returns-in-Sum c = λ p at led.
     sum_node p _ _ _ c.args.nodes.now c.args.made.now c.args.node.now at led c.requires.fits c.sum.new.nodes c.in-Sum.left
-    c.in-Sum.right c.in-Sum.width c.sum.result c.in-Sum.is (λ u v. c.sum.ensures p u v)
+    c.in-Sum.right c.in-Sum.width c.sum.result c.in-Sum.is (λ u v wide. c.sum.ensures wide p u v)
 
 pub returns-in-Equal : goal.returns-in-Equal
 returns-in-Equal c = λ p at led.
