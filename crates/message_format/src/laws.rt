@@ -2,7 +2,7 @@
 
 ghost use Rattle.message_format.specs.Laws.{ElementsLaw};
 
-/// The elements that are computed are those that a format is spelled of, and there are none where it is spelled of none.
+/// The elements that are computed are those that a format is spelled of; there are none where it is spelled of none.
 pub fn format_law()
     ensures { ElementsLaw }
 {}
