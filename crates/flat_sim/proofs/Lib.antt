@@ -11,3 +11,5 @@ pub mod Starts
 pub mod Taken
 pub mod Advances
 pub mod Parts
+pub mod NotingLaws
+pub mod UndoingLaws

@@ -35,7 +35,7 @@ pub in_dropped : (n m : ℕ) (ss : List Slot) (r : ℕ) → AllIn n m ss → All
 in_dropped n m ss r h k i =
     subst (λ s. IsSlot n m s) (sym (get_or-drop r ss k (at.Narrow 0))) (h (r + k) (omega (arith, length-drop r ss, i)))
 
-apart_taken : (ss : List Slot) (r : ℕ) → r ≤ length ss → AllApart ss → AllApart (take r ss)
+pub apart_taken : (ss : List Slot) (r : ℕ) → r ≤ length ss → AllApart ss → AllApart (take r ss)
 apart_taken ss r l h j k less i e =
     let few : k < r = omega (arith, length-take-le r ss l, i) in
     h j k less (omega (arith, few, l))
@@ -54,7 +54,7 @@ apart_between ss r l h j k i g e =
     (sym (get_or-take r ss j (at.Narrow 0) few) ∙ e ∙ get_or-drop r ss k (at.Narrow 0))
 
 -- the memory stays ready
-ready_after : (p : Plan) (x : Slots) (ss : List Slot) (ns : List ℕ) → IsReady p x → AllIn p.narrow p.wide ss
+pub ready_after : (p : Plan) (x : Slots) (ss : List Slot) (ns : List ℕ) → IsReady p x → AllIn p.narrow p.wide ss
     → IsReady p (with_numbers x ss ns)
 ready_after p x ss ns h i =
     let c : SameCounts (with_numbers x ss ns) x = all_counts x ss ns in
@@ -76,7 +76,7 @@ all_wider p x h ss i k l =
     slot_in_more p.narrow p.wide (length x.narrow) (length x.wide) (slot_at ss k) (omega (arith, h.narrow))
     (omega (arith, h.wide)) (i k l)
 
-all_apart : (f : Flat) (m : Machine) → Compiles f m → AllApart m.front.slots
+pub all_apart : (f : Flat) (m : Machine) → Compiles f m → AllApart m.front.slots
 all_apart f m c j k less l = c.slots.apart j k less (omega (arith, l, c.slots.count))
 
 -- a row was put into the slots of the data inputs

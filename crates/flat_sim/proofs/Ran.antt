@@ -89,7 +89,7 @@ input_width_at f k l =
     ∙ get_or-append-add (register_widths f.registers) (input_widths f.signals f.inputs) k 0
     ∙ get_or-map (λ n. signal_width f.signals n) f.inputs k 0 0 l
 
-input_wide : (f : Flat) → IsWellFormed f → (k : ℕ) → k < length f.inputs
+pub input_wide : (f : Flat) → IsWellFormed f → (k : ℕ) → k < length f.inputs
     → signal_width f.signals (slice_index f.inputs k) ≤ 128
 input_wide f w k l =
     let s : ℕ = slice_index f.inputs k in

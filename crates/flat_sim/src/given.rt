@@ -9,8 +9,8 @@ use std::alloc::{AllocError, Global};
 use step_program::step::Slot;
 use step_program::words::SlotValues;
 
-// Puts a number into a slot.
-fn put(values: &mut SlotValues, slot: Slot, number: u128)
+/// Puts a number into a slot.
+pub(crate) fn put(values: &mut SlotValues, slot: Slot, number: u128)
     requires there { IsSlot (length values.old.narrow.items) (length values.old.wide.items) slot }
     requires takes { slots.Takes slot number }
     ensures { held values.new ≡ slots.with_number (held values.old) slot number }

@@ -1,11 +1,16 @@
 //! The simulator: a design, the slots of its program, and the words of its memories.
 
-ghost use Rattle.std.specs.Prelude.{◌≡◌, ◌+◌, ◌-◌, ◌^◌, ◌<◌, length, map, slice_get, slice_index, IfOk, IsSome, IsSomeAnd, Some, None};
+ghost use Rattle.std.specs.Prelude.{◌≡◌, ◌+◌, ◌-◌, ◌^◌, ◌<◌, [], length, map, drop, slice_get, slice_index};
+ghost use Rattle.std.specs.Prelude.{IfOk, OnOk, OnErr, IsSome, IsSomeAnd, Some, None};
+ghost use Rattle.std.specs.List.{All};
 ghost use Rattle.netlist.specs.Order.{IsOrder};
 ghost use Rattle.netlist.specs.Run as run;
 ghost use Rattle.netlist.specs.Values.{node_values};
 ghost use Rattle.step_program.specs.Values.{contents};
 ghost use Rattle.net_compile.specs.Cycle.{RowFits};
+ghost use Rattle.state_changes.specs.Changes.{undone};
+ghost use Rattle.state_changes.specs.Log.{NotesStand};
+ghost use Rattle.flat_sim.specs.Back as back;
 ghost use Rattle.flat_sim.specs.Kept as kept;
 ghost use Rattle.flat_sim.specs.States as states;
 ghost use Rattle.flat_sim.specs.Writes.{has_some};
@@ -15,10 +20,12 @@ use crate::events::all_fired;
 use crate::given::{first_slots, later_slots, put_all, read_all};
 use crate::kept::{first_words, state_words, words_of};
 use crate::nodes::Nodes;
+use crate::noting::{note_registers, note_writes};
 use crate::signals::{own_value, with_driven, with_registers};
 use crate::state::FlatState;
 use crate::steps::Steps;
 use crate::stops::{some_holds, stop_slots};
+use crate::undoing::undo_all;
 use crate::writes::write_memories;
 use dt_core::bits::Bits;
 use dt_core::fault::NoMemory;
@@ -27,6 +34,8 @@ use net_compile::compile;
 use net_compile::compiled::Compiled;
 use netlist::flat::Flat;
 use netlist::laws::{settles_law, values_law};
+use state_changes::changes::Change;
+use state_changes::journal::Journal;
 use std::alloc::Global;
 use std::marker::Model;
 use std::sync::ledger::Ledger;
@@ -224,6 +233,67 @@ impl<'a> Sim<'a> {
         take_next(self.flat, &self.compiled, &mut self.commit, &mut self.slots);
         self.settled = false;
         self.cycle += 1;
+    }
+
+    /// To the next cycle and its state, as `advance`. Each register part and each word that takes another value is noted
+    /// with its old one, and the journal's cycle is closed. Where there is no memory for the notes all is as it was.
+    pub fn note_and_advance(&mut self, journal: &mut Journal<Change>) -> Result<(), NoMemory>
+        requires settled { IsSome self.old.values }
+        requires cycle { self.old.cycle < 2 ^ 64 - 1 }
+        requires fresh { journal.old.fresh ≡ [] }
+        ensures flat { self.new.flat ≡ self.old.flat }
+        ensures cycle { OnOk result (self.new.cycle ≡ self.old.cycle + 1) }
+        ensures state { OnOk result (IsSomeAnd self.old.values
+            (λ v. self.new.state ≡ run.flat_next self.old.flat self.old.state v)) }
+        ensures values { OnOk result (self.new.values ≡ None) }
+        ensures noted { OnOk result (back.Notes self.old.flat self.old.state self.new.state
+            journal.old.most journal.old.cycles journal.new.cycles) }
+        ensures fresh { journal.new.fresh ≡ [] }
+        ensures most { journal.new.most ≡ journal.old.most }
+        ensures same { OnErr result (self.new ≡ self.old) }
+        ensures stand { OnErr result (NotesStand journal.old journal.new) }
+    {
+        journal.reserve(self.flat.registers().len() + self.flat.writes().len())?;
+        let given = first_slots(self.compiled.given(), self.flat.registers().len());
+        let nodes = Nodes {
+            flat: self.flat,
+            slots: self.compiled.nodes(),
+            values: &self.slots,
+        };
+        note_writes(&nodes, &mut self.words, journal);
+        note_registers(&nodes, given, &self.slots, journal);
+        journal.close();
+        take_next(self.flat, &self.compiled, &mut self.commit, &mut self.slots);
+        self.settled = false;
+        self.cycle += 1;
+        Ok(())
+    }
+
+    /// To the cycle before and its state: what the newest cycle of the journal notes is undone, and forgotten. It takes
+    /// no memory.
+    pub fn go_back(&mut self, journal: &mut Journal<Change>)
+        requires cycle { 0 < self.old.cycle }
+        requires fresh { journal.old.fresh ≡ [] }
+        requires some { 0 < length journal.old.cycles }
+        requires fit { All (back.ChangeFits self.old.flat) (back.newest journal.old.cycles) }
+        ensures flat { self.new.flat ≡ self.old.flat }
+        ensures cycle { self.new.cycle + 1 ≡ self.old.cycle }
+        ensures state { self.new.state ≡ undone (back.newest journal.old.cycles) self.old.state }
+        ensures values { self.new.values ≡ None }
+        ensures cycles { journal.new.cycles ≡ drop 1 journal.old.cycles }
+        ensures fresh { journal.new.fresh ≡ [] }
+        ensures most { journal.new.most ≡ journal.old.most }
+    {
+        journal.reopen();
+        undo_all(
+            self.flat,
+            &self.compiled,
+            journal,
+            &mut self.words,
+            &mut self.slots,
+        );
+        self.settled = false;
+        self.cycle -= 1;
     }
 
     /// The design that runs.

@@ -49,8 +49,8 @@ fn put_bits(words: &mut MemoryWords, place: usize, width: u32, from: Whole, part
     }
 }
 
-// The place of the word at an index; none where no word of so many stands there.
-fn word_place(index: Whole, least: u32, count: usize) -> Option<usize>
+/// The place of the word at an index; none where no word of so many stands there.
+pub(crate) fn word_place(index: Whole, least: u32, count: usize) -> Option<usize>
     ensures some { IfSome result (λ k. (whole_of index -ℤ pos least ≡ pos k) × (k < count)) }
     ensures none { IfNone result (writes.IsOutside count (whole_of index -ℤ pos least)) }
 {
@@ -83,8 +83,8 @@ fn write_to(nodes: &Nodes, write: &MemoryWrite, memory: &Memory, words: &mut Mem
     }
 }
 
-// Does a write.
-fn write_one(nodes: &Nodes, write: &MemoryWrite, words: &mut [MemoryWords])
+/// Does a write. It takes no memory.
+pub(crate) fn write_one(nodes: &Nodes, write: &MemoryWrite, words: &mut [MemoryWords])
     requires write { writes.IsWriteOf nodes.now.flat write.now }
     requires kept { kept.AllKept nodes.now.flat.memories words.old }
     ensures kept { kept.AllKept nodes.now.flat.memories words.new }
