@@ -1,0 +1,5 @@
+pub mod Over
+pub mod Window
+pub mod Progress
+pub mod Ran
+pub mod Calls
