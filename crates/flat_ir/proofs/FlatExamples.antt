@@ -3,7 +3,7 @@ use Rattle.std.specs.Prelude.{◌≡◌, refl, [], ◌∷◌, Some, codes}
 use Rattle.std.specs.Fmt.{digits}
 use Rattle.flat_ir.specs.declared.design.Node.TheVariants as n
 use Rattle.flat_ir.specs.declared.design.Deed.TheVariants as d
-use Rattle.flat_ir.specs.FlatRun.{Flat, flat_values, flat_start, flat_next, flat_state, flat_fired}
+use Rattle.flat_ir.specs.FlatRun.{Flat, flat_values, flat_start, flat_next, flat_fired}
 
 -- node 0 is the register, and node 1 says whether it is 0. Where it is, the register is written twice, a text is said, and an
 -- assertion on line 7 fires
@@ -37,9 +37,6 @@ next_of_zero = refl
 -- nothing is done where the condition is 0
 next_of_one : flat_next example [] (1 ∷ []) ≡ 1 ∷ []
 next_of_one = refl
-
-state_of_two : flat_state example ([] ∷ [] ∷ []) 2 ≡ 1 ∷ []
-state_of_two = refl
 
 fired_at_zero : flat_fired example [] (0 ∷ []) ≡ record { line = 7; message = codes "r was 0\n" } ∷ []
 unfolding digits

@@ -1,5 +1,5 @@
 -- Events of a block's execution, and the assertions that fire in it with their messages. This project's own.
-use Rattle.std.specs.Prelude.{ℕ, Bool, true, false, List, [], ◌∷◌, ◌++◌}
+use Rattle.std.specs.Prelude.{ℕ, List, [], ◌∷◌, ◌++◌}
 
 -- a piece of text, or an assertion that fires, with the line where it stands
 pub data Event : Type 0 where
@@ -16,9 +16,3 @@ abbrev pub fired_in : List ℕ → List Event → List Fired
 fired_in t [] = []
 fired_in t (said more ∷ es) = fired_in (t ++ more) es
 fired_in t (stopped line ∷ es) = record { line = line; message = t } ∷ fired_in [] es
-
--- some assertion fires
-abbrev pub some_fired : List Event → Bool
-some_fired [] = false
-some_fired (said more ∷ es) = some_fired es
-some_fired (stopped line ∷ es) = true

@@ -1,5 +1,5 @@
 -- The run of a numbered design: the values of its nodes in a cycle, its next state, and what fires. This project's own.
-use Rattle.std.specs.Prelude.{◌≡◌, ℕ, zero, suc, ◌<◌, ◌≤◌, ◌==◌, ◌&&◌, Bool, if◌then◌else◌, List, [], ◌∷◌, ◌++◌, length, replicate, slice_index, slice_index_or, slice_set, slice_get, Option, Some, None}
+use Rattle.std.specs.Prelude.{◌≡◌, ℕ, ◌<◌, ◌≤◌, ◌==◌, ◌&&◌, Bool, if◌then◌else◌, List, [], ◌∷◌, ◌++◌, length, replicate, slice_index, slice_set, slice_get, Option, Some, None}
 use Rattle.dt_core.specs.declared.limits.TheConstants.{MAX_WIDTH}
 use Rattle.bit_ops.specs.Operators.{low, add, bit, holds}
 use Rattle.flat_ir.specs.declared.design.Role.{Role}
@@ -124,10 +124,6 @@ flat_start f = replicate (length f.registers) 0
 
 abbrev pub flat_next : Flat → List ℕ → List ℕ → List ℕ
 flat_next f row state = after_actions (flat_values f row state) f.actions state
-
-abbrev pub flat_state : Flat → List (List ℕ) → ℕ → List ℕ
-flat_state f rows zero = flat_start f
-flat_state f rows (suc t) = flat_next f (slice_index_or rows t []) (flat_state f rows t)
 
 -- the assertions that fire with a row in a state
 abbrev pub flat_fired : Flat → List ℕ → List ℕ → List Fired

@@ -5,5 +5,4 @@ pub mod Fired
 pub mod FlatRun
 pub mod Settled
 pub mod Names
-pub mod Variables
 pub mod Shown

@@ -7,7 +7,7 @@ use Rattle.flat_ir.specs.declared.design.SignalKind.{SignalKind}
 use Rattle.flat_ir.specs.declared.design.SignalKind.TheVariants as kind
 use Rattle.flat_ir.specs.declared.design.Signal.{Signal}
 use Rattle.flat_ir.specs.FlatRun.{Flat}
-use Rattle.flat_ir.specs.Variables.{Kind, wire, reg, integer, Variable, Scope, scope, no_scopes}
+use Rattle.design_names.specs.Variables.{Kind, wire, reg, integer, Variable, Scope, scope, no_scopes}
 
 abbrev pub kind_of : SignalKind → Kind
 kind_of kind.Wire = wire

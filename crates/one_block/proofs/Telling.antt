@@ -13,6 +13,9 @@ use Rattle.netlist.specs.declared.design.Effect.TheVariants as e
 use Rattle.netlist.specs.declared.design.Event.{Event}
 use Rattle.netlist.specs.declared.node.Node.{Node}
 use Rattle.dt_core.specs.declared.place.Place.{Place}
+use Rattle.design_names.specs.Stops.{effect_stop, event_stops}
+use Rattle.design_names.specs.declared.stops.Stop.{Stop}
+use Rattle.one_block.specs.SameDesign.{IsPlainStop}
 use Rattle.one_block.specs.declared.made.Made.{Made}
 use Rattle.one_block.specs.Calls.Nodes.{made_at}
 use Rattle.one_block.specs.Calls.Front.{IsFront}
@@ -128,6 +131,19 @@ says_as : (nodes : List Node) (xs : List ℕ) (condition : ℕ) (t u : List ℕ)
     → Says nodes xs condition u es
 says_as nodes xs condition t u es same h = subst (λ v. Says nodes xs condition v es) same h
 
+-- ---- the stops among events
+
+stops_on : (es fs : List Event) → event_stops 0 (es ++ fs) ≡ event_stops 0 es ++ event_stops 0 fs
+stops_on [] fs = refl
+stops_on (x ∷ es) fs =
+    let first : List Stop = effect_stop 0 x.effect in
+    ap (λ l. first ++ l) (stops_on es fs) ∙ sym (append_assoc first (event_stops 0 es) (event_stops 0 fs))
+
+-- a text in front adds no stop
+texts_stop : (condition : ℕ) (t : List ℕ) (es : List Event) → event_stops 0 (texts_of condition t ++ es) ≡ event_stops 0 es
+texts_stop condition [] es = refl
+texts_stop condition (x ∷ t) es = refl
+
 -- ---- a format that shows a node
 
 texts_fit : (nodes : List Node) (condition : ℕ) (t : List ℕ) → IsNode nodes condition → All (EventFits nodes) (texts_of condition t)
@@ -142,6 +158,7 @@ shows_none condition node format text line before behind front is whole = record
   more = record { condition = condition; effect = e.Said line } ∷ [];
   whole = whole;
   fit = λ nodes c n. one_event nodes _ (c, tt);
+  stops = refl;
   says = λ nodes xs. says_as nodes xs condition line _ _ (is ∙ ap (λ t. t ++ 10 ∷ []) (sym (front (slice_index xs node)))) (said nodes xs condition line);
 }
 
@@ -161,6 +178,7 @@ shows_one condition node format text rest end first second third fourth front is
           ∙ ap (λ l. first ++ l) (append_assoc (texts_of condition text) shown last);
       fit = λ nodes i j. all_on (EventFits nodes) (texts_of condition text) (shown ++ last) (texts_fit nodes condition text i)
           (all_more (EventFits nodes) _ last (i, j) (one_event nodes _ (i, tt)));
+      stops = texts_stop condition text (shown ++ last);
       says = λ nodes xs.
           let n : ℕ = slice_index xs node in
           let tail : List ℕ = format_text rest [] ++ 10 ∷ [] in
@@ -208,6 +226,7 @@ silent made events a none =
       more = [];
       whole = sym (append-nil events);
       fit = λ nodes h. all_none (EventFits nodes);
+      stops = all_none IsPlainStop;
       tells = λ nodes xs vs agree. record {
         fired = λ text. sym (ap (fired_in text) (all vs));
         left = λ text. sym (ap (text_after text) (all vs));
@@ -222,6 +241,7 @@ says_plain made before behind a format l is whole = record {
   more = said_line (made_at made a.condition).node format ∷ [];
   whole = whole;
   fit = λ nodes h. one_event nodes _ (h a.condition l, tt);
+  stops = all_none IsPlainStop;
   tells = λ nodes xs vs agree.
       says_tells nodes xs vs (made_at made a.condition).node (format_text format [] ++ 10 ∷ []) _ a (agree a.condition l) (is vs)
       (said nodes xs (made_at made a.condition).node (format_text format [] ++ 10 ∷ []));
@@ -236,6 +256,7 @@ says_shown made before behind a format k l m is h = record {
   more = h.more;
   whole = h.whole;
   fit = λ nodes there. h.fit nodes (there a.condition l) (there k m);
+  stops = subst (All IsPlainStop) (sym h.stops) (all_none IsPlainStop);
   tells = λ nodes xs vs agree.
       says_tells nodes xs vs (made_at made a.condition).node (format_text format (slice_index vs k ∷ []) ++ 10 ∷ []) h.more a (agree a.condition l) (is vs)
       (says_as nodes xs (made_at made a.condition).node _ _ h.more (ap (λ n. format_text format (n ∷ []) ++ 10 ∷ []) (agree k m)) (h.says nodes xs));
@@ -259,6 +280,7 @@ stops made before behind a place l is whole = record {
   more = record { condition = (made_at made a.condition).node; effect = e.Stopped place false } ∷ [];
   whole = whole;
   fit = λ nodes h. one_event nodes _ (h a.condition l, tt);
+  stops = all_more IsPlainStop _ [] (refl, refl) (all_none IsPlainStop);
   tells = λ nodes xs vs agree.
       let b : Bool = is_done vs a in
       let events : flat_events vs (a ∷ []) ≡ (if b then plain.stopped place.line ∷ [] else []) ++ [] = ap (λ l. (if b then l else []) ++ []) (is vs) in
@@ -276,6 +298,7 @@ none_told made = record {
   more = [];
   whole = refl;
   fit = λ nodes h. all_none (EventFits nodes);
+  stops = all_none IsPlainStop;
   tells = λ nodes xs vs agree. record { fired = λ text. refl; left = λ text. refl };
 }
 
@@ -285,5 +308,6 @@ told_on made a b c done next h k = record {
   more = h.more ++ k.more;
   whole = k.whole ∙ ap (λ l. l ++ k.more) h.whole ∙ append_assoc a h.more k.more;
   fit = λ nodes there. all_on (EventFits nodes) h.more k.more (h.fit nodes there) (k.fit nodes there);
+  stops = subst (All IsPlainStop) (sym (stops_on h.more k.more)) (all_on IsPlainStop _ _ h.stops k.stops);
   tells = λ nodes xs vs agree. tells_on nodes xs vs h.more k.more done next (h.tells nodes xs vs agree) (k.tells nodes xs vs agree);
 }

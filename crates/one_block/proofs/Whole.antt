@@ -24,9 +24,10 @@ use Rattle.netlist.specs.declared.design.Effect.TheVariants as e
 use Rattle.netlist.specs.declared.design.Signal.{Signal}
 use Rattle.netlist.specs.declared.design.Range.{Range}
 use Rattle.netlist.specs.declared.node.Node.{Node}
+use Rattle.design_names.specs.Stops.{event_stops}
 use Rattle.one_block.specs.declared.made.Made.{Made}
 use Rattle.one_block.specs.OneBlock.{IsOneBlock, Fits, input_widths}
-use Rattle.one_block.specs.SameDesign.{SameDesign, top_scope, signal_of, input_places, register_ranges, state_of, values_of, stop_lines, by_line}
+use Rattle.one_block.specs.SameDesign.{SameDesign, top_scope, signal_of, input_places, register_ranges, state_of, values_of, stop_lines, IsPlainStop, by_line}
 use Rattle.one_block.specs.Calls.Nodes.{AllFit, GoesOn, NodesFit, Stands, MakesAll, reads_from, range_at, made_at}
 use Rattle.one_block.specs.Calls.Registers.{ActionsFit, AreNext, Takes, parts_of}
 use Rattle.one_block.specs.Calls.Events.{line_fired, text_behind, AddsEvents, Agree, AreThere}
@@ -144,6 +145,10 @@ fits p made ranges next nodes events m =
 
 -- ---- stops by their lines
 
+-- the lines of the stops among events
+abbrev event_lines : List Event → List ℕ
+event_lines events = stop_lines (event_stops 0 events)
+
 no_more : (b : Bool) (lines : List ℕ) (rest : List Fired) → map (by_line lines) ((if b then [] else []) ++ rest) ≡ map (by_line lines) rest
 no_more true lines rest = refl
 no_more false lines rest = refl
@@ -162,27 +167,27 @@ one_stop false lines n line text rest old at e = e
 -- the events that are left fire by lines what they fire by numbers
 abbrev AreByLines : List Node → List ℕ → List Event → Type 0
 AreByLines nodes xs events = (front : List ℕ) (n : ℕ) (text : List ℕ) → length front ≡ n
-    → map (by_line (front ++ stop_lines events)) (block_fired nodes xs n text events) ≡ line_fired nodes xs text events
+    → map (by_line (front ++ event_lines events)) (block_fired nodes xs n text events) ≡ line_fired nodes xs text events
 
 by_effect : (nodes : List Node) (xs : List ℕ) (condition : ℕ) (effect : Effect) (more : List Event) → AreByLines nodes xs more
     → AreByLines nodes xs (record { condition = condition; effect = effect } ∷ more)
 by_effect nodes xs condition (e.Said t) more rest front n text count =
     let b : Bool = holds (slice_index xs condition) in
-    no_more b (front ++ stop_lines more) (block_fired nodes xs n (if b then text ++ t else text) more)
+    no_more b (front ++ event_lines more) (block_fired nodes xs n (if b then text ++ t else text) more)
     ∙ rest front n (if b then text ++ t else text) count
     ∙ sym (nothing_more b (line_fired nodes xs (if b then text ++ t else text) more))
 by_effect nodes xs condition (e.Showed s) more rest front n text count =
     let b : Bool = holds (slice_index xs condition) in
     let t : List ℕ = text_behind nodes xs text (record { condition = condition; effect = e.Showed s }) in
-    no_more b (front ++ stop_lines more) (block_fired nodes xs n t more)
+    no_more b (front ++ event_lines more) (block_fired nodes xs n t more)
     ∙ rest front n t count
     ∙ sym (nothing_more b (line_fired nodes xs t more))
 by_effect nodes xs condition (e.Stopped place fatal) more rest front n text count =
     let b : Bool = holds (slice_index xs condition) in
     let t : List ℕ = if b then [] else text in
-    let lines : List ℕ = front ++ place.line ∷ stop_lines more in
-    let at : slice_index lines n ≡ place.line = ap (slice_index lines) (sym count) ∙ get_or-append_seam front place.line (stop_lines more) 0 in
-    let longer : (front ++ place.line ∷ []) ++ stop_lines more ≡ lines = append_assoc front (place.line ∷ []) (stop_lines more) in
+    let lines : List ℕ = front ++ place.line ∷ event_lines more in
+    let at : slice_index lines n ≡ place.line = ap (slice_index lines) (sym count) ∙ get_or-append_seam front place.line (event_lines more) 0 in
+    let longer : (front ++ place.line ∷ []) ++ event_lines more ≡ lines = append_assoc front (place.line ∷ []) (event_lines more) in
     let size : length (front ++ place.line ∷ []) ≡ suc n = omega (arith, length_push front place.line, count) in
     one_stop b lines n place.line text (block_fired nodes xs (suc n) t more) (line_fired nodes xs t more) at
     (ap (λ ls. map (by_line ls) (block_fired nodes xs (suc n) t more)) (sym longer)
@@ -259,6 +264,8 @@ same p made ranges next nodes events m =
       driven = refl;
       registers = part_ranges ranges next m.takes.count ∙ m.ranges_are;
       memories = refl;
+      stops = subst (All IsPlainStop) (sym (end_none (event_stops 0 events)))
+          (subst (λ es. All IsPlainStop (event_stops 0 es)) (sym m.tells.whole) m.tells.stops);
       start = ap state_of (part_initials ranges next m.takes.count ∙ ap (λ n. replicate n 0) range_count);
       settles = λ row state fit. sym (settled row state fit);
       alone = λ row state v fit h. h ∙ settled row state fit;
@@ -270,8 +277,8 @@ same p made ranges next nodes events m =
           let vs : List ℕ = plain.flat_values p row state in
           let agree : Agree made xs vs = λ k l. (m.stands.each k l).is f row state goes fit in
           let all : events ≡ m.tells.more = m.tells.whole in
-          ap (λ ls. map (by_line ls) (block_fired nodes xs 0 [] events ++ [])) (end_none (stop_lines events))
-          ∙ ap (map (by_line (stop_lines events))) (end_none (block_fired nodes xs 0 [] events))
+          ap (λ ss. map (by_line (stop_lines ss)) (block_fired nodes xs 0 [] events ++ [])) (end_none (event_stops 0 events))
+          ∙ ap (map (by_line (event_lines events))) (end_none (block_fired nodes xs 0 [] events))
           ∙ by_lines_are nodes xs events [] 0 [] refl
           ∙ ap (line_fired nodes xs []) all
           ∙ (m.tells.tells nodes xs vs agree).fired [];

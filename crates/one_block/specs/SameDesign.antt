@@ -1,6 +1,7 @@
 -- When a design of a hierarchy is a numbered design of one clocked block: one scope, the same signals, and the same run
 -- with every row and state that fit. This project's own.
-use Rattle.std.specs.Prelude.{◌≡◌, ℕ, ◌+◌, List, [], ◌∷◌, ◌++◌, map, slice_index, Some, None}
+use Rattle.std.specs.Prelude.{◌≡◌, ℕ, ◌+◌, false, List, [], ◌∷◌, ◌++◌, map, slice_index, Some, None}
+use Rattle.std.specs.List.{All}
 use Rattle.flat_ir.specs.declared.design.Role.{Role}
 use Rattle.flat_ir.specs.declared.design.Role.TheVariants as role
 use Rattle.flat_ir.specs.declared.design.SignalKind.{SignalKind}
@@ -10,7 +11,6 @@ use Rattle.flat_ir.specs.FlatRun as plain
 use Rattle.flat_ir.specs.Fired as by_lines
 use Rattle.flat_ir.specs.Shown.{flat_shown}
 use Rattle.netlist.specs.Design.{Flat}
-use Rattle.netlist.specs.Plain.{PlainBlock}
 use Rattle.netlist.specs.Run.{State, Fired, FlatSettles, flat_start, flat_next, flat_fired}
 use Rattle.netlist.specs.Values.{Values}
 use Rattle.netlist.specs.declared.design.Role as into_role
@@ -21,9 +21,8 @@ use Rattle.netlist.specs.declared.design.Signal as into_signal
 use Rattle.netlist.specs.declared.design.Scope.{Scope}
 use Rattle.netlist.specs.declared.design.ScopeKind.TheVariants as scope
 use Rattle.netlist.specs.declared.design.Range.{Range}
-use Rattle.netlist.specs.declared.design.Effect.{Effect}
-use Rattle.netlist.specs.declared.design.Effect.TheVariants as e
-use Rattle.netlist.specs.declared.design.Event.{Event}
+use Rattle.design_names.specs.Stops.{flat_stops}
+use Rattle.design_names.specs.declared.stops.Stop.{Stop}
 use Rattle.one_block.specs.OneBlock.{Fits}
 
 -- ---- scope and signals
@@ -85,20 +84,13 @@ state_of registers = record { registers = registers; memories = [] }
 abbrev pub values_of : plain.Flat → List ℕ → List ℕ → Values
 values_of f row state = record { signals = flat_shown f row state; memories = [] }
 
--- the lines of a block's stops, in order
-abbrev pub stop_line : Effect → List ℕ
-stop_line (e.Said text) = []
-stop_line (e.Showed shown) = []
-stop_line (e.Stopped place fatal) = place.line ∷ []
+-- the lines of all stops, in order of their numbers
+abbrev pub stop_lines : List Stop → List ℕ
+stop_lines stops = map (λ s. s.place.line) stops
 
-abbrev pub stop_lines : List Event → List ℕ
-stop_lines [] = []
-stop_lines (x ∷ xs) = stop_line x.effect ++ stop_lines xs
-
--- the lines of the stops of all blocks, in order of their numbers
-abbrev pub all_stop_lines : List PlainBlock → List ℕ
-all_stop_lines [] = []
-all_stop_lines (b ∷ bs) = stop_lines b.events ++ all_stop_lines bs
+-- a stop of the one block stands in the one scope, and is no `$fatal`
+abbrev pub IsPlainStop : Stop → Type 0
+IsPlainStop s = (s.scope ≡ 0) × (s.fatal ≡ false)
 
 -- an assertion that fired, by the line of its stop
 abbrev pub by_line : List ℕ → Fired → by_lines.Fired
@@ -106,13 +98,14 @@ by_line lines x = record { line = slice_index lines x.stop; message = x.message 
 
 -- what fires of a design in a cycle, by lines
 abbrev pub fired_by_lines : Flat → Values → List by_lines.Fired
-fired_by_lines f v = map (by_line (all_stop_lines f.blocks)) (flat_fired f v)
+fired_by_lines f v = map (by_line (stop_lines (flat_stops f))) (flat_fired f v)
 
 -- ---- the whole
 
 -- One scope has the name and the signals, in order. Each register is one register part, the whole of its signal, and
--- nothing else has parts. The start is the same; and with every row and state that fit, what is shown settles, and
--- nothing else does, and the next state and the assertions that fire are the same.
+-- nothing else has parts; each stop is a plain one of that scope. The start is the same; and with every row and state
+-- that fit, what is shown settles, and nothing else does, and the next state and the assertions that fire, each by the
+-- line of the stop that has its number, are the same.
 pub record SameDesign (old : plain.Flat) (new : Flat) : Type 0 where
   pub scopes : new.scopes ≡ top_scope old.name ∷ []
   pub signals : new.signals ≡ map signal_of old.signals
@@ -120,6 +113,7 @@ pub record SameDesign (old : plain.Flat) (new : Flat) : Type 0 where
   pub driven : new.driven ≡ []
   pub registers : map (λ p. p.range) new.registers ≡ register_ranges 0 old.signals
   pub memories : new.memories ≡ []
+  pub stops : All IsPlainStop (flat_stops new)
   pub start : flat_start new ≡ state_of (plain.flat_start old)
   pub settles : (row state : List ℕ) → Fits old row state
       → FlatSettles new (state_of state) row (values_of old row state)

@@ -1,5 +1,4 @@
 pub mod OneBit
-pub mod SameRunLaw
 mod ExpressionExamples
 mod RunExamples
 mod ShownExamples

@@ -1,6 +1,6 @@
 -- Worked examples of what a module shows: the counter, and ports in another order than rows and states have.
 use Rattle.std.specs.Prelude.{◌≡◌, refl, ℕ, true, false, List, [], ◌∷◌, replicate, codes}
-use Rattle.flat_ir.specs.Variables.{Kind, wire, reg, Variable, scope, no_scopes, variables_of}
+use Rattle.design_names.specs.Variables.{Kind, wire, reg, Variable, scope, no_scopes, variables_of}
 use Rattle.vl_tree.specs.Tree.{Text, input, output, no_stmt, Module}
 use Rattle.vl_tree.proofs.Counter.{plain_decimal, counter}
 use Rattle.vl_meaning.specs.Run.{cell}

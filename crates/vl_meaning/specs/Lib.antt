@@ -5,4 +5,3 @@ pub mod Statement
 pub mod Run
 pub mod Shown
 pub mod StandsFor
-pub mod SameRun

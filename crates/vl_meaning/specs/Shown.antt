@@ -1,6 +1,6 @@
 -- What a module shows by name: its scope (IEEE 1364-2005, clause 18.2.3), and the value of each port in a cycle. This project's own.
 use Rattle.std.specs.Prelude.{ℕ, true, List, [], map, slice_index_or, bytes_eq}
-use Rattle.flat_ir.specs.Variables.{Kind, wire, reg, Variable, Scope, scope, no_scopes}
+use Rattle.design_names.specs.Variables.{Kind, wire, reg, Variable, Scope, scope, no_scopes}
 use Rattle.vl_tree.specs.Tree.{Port, input, output, Module}
 use Rattle.vl_meaning.specs.Objects.{port_name, port_width}
 use Rattle.vl_meaning.specs.Expression.{Values, value_at}

@@ -15,7 +15,9 @@ use Rattle.netlist.specs.declared.design.Shown.{Shown}
 use Rattle.netlist.specs.declared.design.Base.TheVariants as b
 use Rattle.flat_ir.specs.Format.{format_text}
 use Rattle.netlist.specs.declared.node.Node.{Node}
+use Rattle.design_names.specs.Stops.{event_stops}
 use Rattle.one_block.specs.declared.made.Made.{Made}
+use Rattle.one_block.specs.SameDesign.{IsPlainStop}
 use Rattle.one_block.specs.Calls.Nodes.{made_at}
 
 -- a value that a message shows in decimal, unsigned, with the fewest digits
@@ -85,16 +87,18 @@ Agree made xs vs = (k : ℕ) → k < length made → slice_index xs (made_at mad
 abbrev pub AreThere : List Node → List Made → Type 0
 AreThere nodes made = (k : ℕ) → k < length made → IsNode nodes (made_at made k).node
 
--- events were added that say a text, which may show the values of nodes
+-- events were added that say a text, which may show the values of nodes; none of them stops
 pub record AddsText (condition node : ℕ) (t : List ℕ → List ℕ) (before behind : List Event) : Type 0 where
   pub more : List Event
   pub whole : behind ≡ before ++ more
   pub fit : (nodes : List Node) → IsNode nodes condition → IsNode nodes node → All (EventFits nodes) more
+  pub stops : event_stops 0 more ≡ []
   pub says : (nodes : List Node) (xs : List ℕ) → Says nodes xs condition (t xs) more
 
--- events were added that do what these actions do
+-- events were added that do what these actions do; their stops are plain ones of the top
 pub record AddsEvents (made : List Made) (before behind : List Event) (actions : List Action) : Type 0 where
   pub more : List Event
   pub whole : behind ≡ before ++ more
   pub fit : (nodes : List Node) → AreThere nodes made → All (EventFits nodes) more
+  pub stops : All IsPlainStop (event_stops 0 more)
   pub tells : (nodes : List Node) (xs vs : List ℕ) → Agree made xs vs → Tells nodes xs vs more actions
