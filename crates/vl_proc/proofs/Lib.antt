@@ -8,3 +8,4 @@ pub mod Made
 pub mod Turns
 pub mod Views
 pub mod Whole
+pub mod OneBlock

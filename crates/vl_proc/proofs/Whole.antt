@@ -10,7 +10,7 @@ use Rattle.flat_ir.specs.Fired.{fired_in}
 use Rattle.flat_ir.specs.FlatRun.{Flat, IsWellFormed, NodeFits, DeedFits, values_from}
 use Rattle.flat_ir.specs.Names.{input_names}
 use Rattle.flat_ir.specs.Shown.{variable_of, signal_value}
-use Rattle.flat_ir.specs.Variables.{scope, no_scopes}
+use Rattle.design_names.specs.Variables.{scope, no_scopes}
 use Rattle.vl_tree.specs.Tree.{Text, Module}
 use Rattle.vl_meaning.specs.Objects.{data_inputs, registers}
 use Rattle.vl_meaning.specs.Faults.{are_declared, is_sound}

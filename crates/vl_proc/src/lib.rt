@@ -2,7 +2,8 @@
 //!
 //! Below: `vl_tree` (the tree), `vl_meaning` (what it means), `vl_scope` (the numbers of names), `flat_ir` (the design), `bit_ops`
 //! (numbers at a context's width).
-//! Above: `vl_front`, which reads the tree. Promise: the design of a sound module stands for the module.
+//! Above: `vl_front`, which reads the tree. Promise: the design of a sound module stands for the module, has its inputs' widths,
+//! and is one that `one_block` takes.
 //! `specs/Ports` says what ports become, `specs/Lowers` what a piece of lowering adds.
 //! Not said: that memory is enough; more nodes than 2^32 count as out of memory.
 #![tactic(auto)]
@@ -17,7 +18,9 @@ mod table;
 ghost use Rattle.std.specs.Prelude.{◌≡◌, true, IfOk};
 ghost use Rattle.vl_tree.specs.View.{module_of};
 ghost use Rattle.vl_meaning.specs.Faults.{are_stmts, is_sound};
-ghost use Rattle.vl_meaning.specs.StandsFor.{StandsFor};
+ghost use Rattle.vl_meaning.specs.StandsFor.{StandsFor, input_widths};
+ghost use Rattle.one_block.specs.OneBlock as block;
+ghost use Rattle.one_block.specs.OneBlock.{IsOneBlock};
 ghost use Rattle.vl_proc.specs.Scopes.{IsKnown, module_in};
 ghost use Rattle.vl_proc.specs.Lowers.{IsBuilt};
 
@@ -35,7 +38,9 @@ use vl_tree::tree::Module;
 /// The numbered design that stands for a module.
 pub fn lower(alloc: Global, top: &Module) -> Result<Flat, NoMemory>
     requires { is_sound (module_of top.now) ≡ true }
-    ensures { IfOk result (λ f. StandsFor f (module_of top.now)) }
+    ensures stands { IfOk result (λ f. StandsFor f (module_of top.now)) }
+    ensures one_block { IfOk result IsOneBlock }
+    ensures inputs { IfOk result (λ f. block.input_widths f.signals ≡ input_widths (module_of top.now)) }
 {
     let table = Table::new(alloc, &top.ports, top.clock.bytes())?;
     let names = scope::Scope::of_ports(alloc, &top.ports)?;
