@@ -1,9 +1,9 @@
 -- What `read_design` answers. This project's own.
 use Rattle.std.specs.Prelude.{ℕ, List, Option, Result, Ok, Err}
-use Rattle.flat_ir.specs.FlatRun.{Flat}
+use Rattle.netlist.specs.Design.{Flat}
 use Rattle.vl_tree.specs.declared.fault.FaultKind.{FaultKind}
 use Rattle.vl_tree.specs.Tree.{Module}
-use Rattle.vl_meaning.specs.StandsFor.{StandsFor}
+use Rattle.vl_stands.specs.StandsFor.{StandsFor}
 use Rattle.vl_front.specs.FirstFault.{HasFirst}
 use Rattle.vl_front.specs.Top.{Asked, HasNoTop}
 use Rattle.vl_front.specs.OneModule.{IsDesign, IsNoDesign}

@@ -1,11 +1,11 @@
 //! From the text of a design to its numbered design.
 //!
 //! Below: `vl_pre` (clean text), `vl_lex` (tokens), `vl_source` (whether they are a source), `vl_module` (the tree of one module with one
-//! clocked block), `vl_scope` (static faults), `vl_proc` (numbered design). Above: `dessert`.
+//! clocked block), `vl_scope` (static faults), `vl_proc` (numbered design), `one_block` (the same as one of a hierarchy). Above: `dessert`.
 //! Promise: `read_design` answers the first fault of the clean text, of the tokens or of the grammar, with its line, exactly where
 //! there is one (`specs/FirstFault`), and NoTop exactly where of the other texts one has no module that may be the top (`specs/Top`);
 //! of the texts that are left it accepts exactly those of sound modules with one clocked block (`specs/OneModule`), and its design
-//! stands for the module (`StandsFor` of `vl_meaning`). `fault_laws`: a text has one first fault at most, and none where its tokens
+//! stands for the module (`StandsFor` of `vl_stands`). `fault_laws`: a text has one first fault at most, and none where its tokens
 //! are a source.
 //! Not said: which later fault a text has that is refused as `NotYetBuilt`; that memory is enough.
 #![tactic(auto)]
@@ -24,7 +24,7 @@ mod top;
 use dt_core::limits::MAX_TOKENS;
 pub use fault::DesignFault;
 use fault::{in_source, line_at};
-use flat_ir::flat::Flat;
+use netlist::flat::Flat;
 use std::alloc::Global;
 use top::{is_asked, is_topless};
 use vl_tree::token::Token;
@@ -43,7 +43,8 @@ pub fn read_design(alloc: Global, text: &[u8], top: Option<&[u8]>) -> Result<Fla
     if !vl_scope::is_sound(alloc, &module)? {
         return Err(DesignFault::NotYetBuilt);
     }
-    Ok(vl_proc::lower(alloc, &module)?)
+    let plain = vl_proc::lower(alloc, &module)?;
+    Ok(one_block::convert(alloc, &plain)?)
 }
 
 /// Laws of the definition of a first fault: a text has one at most, and none where its tokens are a source.

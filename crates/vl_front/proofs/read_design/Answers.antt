@@ -2,6 +2,7 @@ use Rattle.std.proofs.Common.{sym, ap, subst, ◌∙◌}
 use Rattle.std.proofs.lemmas.Result.{err_from_is_err_and}
 use Rattle.vl_tree.specs.Token.{all_coded}
 use Rattle.vl_tree.specs.View.{module_of}
+use Rattle.vl_stands.proofs.Stands.{same_stands}
 use Rattle.vl_front.specs.Top.{HaveTop, asked, is_asked}
 use Rattle.vl_front.proofs.Steps.{refused, not_asked, unsound, accepted}
 use Rattle.vl_front.proofs.read_design.Goals as goal
@@ -31,5 +32,6 @@ returns c =
     let s = subst (λ x. HaveTop (asked c.args.top) (all_coded x)) (c.deref.ensures.value ∙ sym v) c.in_ok-check_source.ensures.source in (
       module_of c.in_ok-module.module,
       accepted c.args.text.now (asked c.args.top) (all_coded c.deref-2.result.now) (rw v c.in_ok-tokens.ensures.tokens) s (module_of c.in_ok-module.module) c.in_ok-module.ensures.only c.in_ok-module.ensures.accepts (ap (is_asked (asked c.args.top)) (sym c.bytes.ensures) ∙ sym c.is_asked.ensures ∙ c.if-not-is_asked.false) (sym c.in_ok-is_sound.ensures ∙ c.if-not-branch.false),
-      c.in_ok-lower.ensures,
+      same_stands _ _ (module_of c.in_ok-module.module)
+          (record { stands = c.in_ok-plain.ensures.stands; widths = c.in_ok-plain.ensures.inputs }) c.in_ok-convert.ensures,
     )
