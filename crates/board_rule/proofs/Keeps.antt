@@ -26,7 +26,7 @@ others_know a b n c d id j u leaders laggers ne k = record {
 
 module _ (n : Named) (s : State ℕ View) (h : Kept n s) (id : ℕ) (v : View) (at : get_elem? s.views id ≡ some v) where
   -- the board after a step of the seat id, with other posts and another view of its own
-  pub stepped_kept : (words : List ℕ) (d : Posts) (w : View) → PostsHold (course n) d → IsCoded n.parts words d
+  abbrev pub stepped_kept : (words : List ℕ) (d : Posts) (w : View) → PostsHold (course n) d → IsCoded n.parts words d
       → ((p : ℕ) → h.home_leader p ≢ id → d.leader p ≡ h.posts.leader p)
       → ((q : ℕ) → h.home_lagger q ≢ id → d.lagger q ≡ h.posts.lagger q)
       → Knows h.home_leader h.home_lagger n d id w

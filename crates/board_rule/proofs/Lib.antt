@@ -4,3 +4,4 @@ pub mod PostsSteps
 pub mod Keeps
 pub mod Steps
 pub mod Seated
+pub mod Laws

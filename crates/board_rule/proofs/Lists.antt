@@ -1,6 +1,6 @@
 -- Lists of what seats have.
-use Rattle.std.proofs.Common.{◌≡◌, ◌≢◌, ◌⊎◌, ℕ, zero, suc, Bool, true, false, List, [], ◌∷◌, ◌++◌}
-use Rattle.std.proofs.Common.{if◌then◌else◌, length, map, refl, sym, ap, ◌∙◌, inl, inr, ⊎_elim}
+use Rattle.std.proofs.Common.{◌≡◌, ◌≢◌, ◌⊎◌, ℕ, zero, suc, List, [], ◌∷◌, ◌++◌}
+use Rattle.std.proofs.Common.{length, map, set, refl, sym, ap, ◌∙◌, inl, inr, ⊎_elim}
 use mathlib.Core.Option.{some, some-injective, some-ne-none}
 use lib.ListN.{get_elem?}
 use Rattle.board_rule.specs.Rule.{Each, Apart}
@@ -19,6 +19,10 @@ pub each_both : {A : Type 0} (P Q R : A → Type 0) → ((x : A) → P x → Q x
 each_both P Q R f [] p q = tt
 each_both P Q R f (x ∷ xs) p q = (f x p.0 q.0, each_both P Q R f xs p.1 q.1)
 
+pub each_of_map : {A B : Type 0} (P : B → Type 0) (f : A → B) (xs : List A) → Each P (map f xs) → Each (λ (x : A). P (f x)) xs
+each_of_map P f [] e = tt
+each_of_map P f (x ∷ xs) e = (e.0, each_of_map P f xs e.1)
+
 module _ {A : Type 0} (P : A → Type 0) where
   pub each_append : (xs ys : List A) → Each P xs → Each P ys → Each P (xs ++ ys)
   each_append [] ys a b = b
@@ -31,11 +35,6 @@ at_end [] a b zero e = inr (refl, some-injective a b e)
 at_end [] a b (suc j) e = absurd (some-ne-none b (sym e))
 at_end (x ∷ xs) a b zero e = inl e
 at_end (x ∷ xs) a b (suc j) e = ⊎_elim inl (λ t. inr (ap suc t.0, t.1)) (at_end xs a b j e)
-
--- what holds of both holds of the choice
-pub either : {A : Type 0} (P : A → Type 0) (b : Bool) (x y : A) → P x → P y → P (if b then x else y)
-either P true x y p q = p
-either P false x y p q = q
 
 -- ---- numbers that differ
 
@@ -62,3 +61,9 @@ apart_by number home i j ne (x ∷ xs) ys a b = (
 pub same_numbers : {A : Type 0} (number : A → ℕ) (g : A → A) → ((x : A) → number (g x) ≡ number x) → (xs : List A) → map number (map g xs) ≡ map number xs
 same_numbers number g same [] = refl
 same_numbers number g same (x ∷ xs) = λ i. same x i ∷ same_numbers number g same xs i
+
+-- the place that a view was put at has it
+pub set_at : {A : Type 0} (l : List A) (i : ℕ) (a b : A) → get_elem? l i ≡ some a → get_elem? (set l i b) i ≡ some b
+set_at [] i a b e = absurd (some-ne-none a (sym e))
+set_at (x ∷ xs) zero a b e = refl
+set_at (x ∷ xs) (suc i) a b e = set_at xs i a b e

@@ -17,17 +17,17 @@ use Rattle.board_rule.proofs.Lists.{each_map, each_both, each_append, at_end, ap
 -- ---- two seats' posts at one
 
 -- where a post has gone: from the other seat to this one
-abbrev moved : ℕ → ℕ → (ℕ → ℕ) → ℕ → ℕ
+abbrev pub moved : ℕ → ℕ → (ℕ → ℕ) → ℕ → ℕ
 moved id other home p = if home p == other then id else home p
 
-moved_here : (id other : ℕ) (home : ℕ → ℕ) (p : ℕ) → home p ≡ other → moved id other home p ≡ id
+pub moved_here : (id other : ℕ) (home : ℕ → ℕ) (p : ℕ) → home p ≡ other → moved id other home p ≡ id
 moved_here id other home p e = choose (λ (x : ℕ). x ≡ id) (home p) other id (home p) (λ _. refl) (λ ne. absurd (ne e))
 
-moved_not : (id other : ℕ) (home : ℕ → ℕ) (p j : ℕ) → home p ≡ j → j ≢ other → moved id other home p ≡ j
+pub moved_not : (id other : ℕ) (home : ℕ → ℕ) (p j : ℕ) → home p ≡ j → j ≢ other → moved id other home p ≡ j
 moved_not id other home p j e ne =
     choose (λ (x : ℕ). x ≡ j) (home p) other id (home p) (λ t. absurd (ne (sym e ∙ t))) (λ _. e)
 
-pub join_keeps : (id : ℕ) (v : View) (other : ℕ) (w : View) → w.named ≡ v.named → Joins Ruled id v other w (both v w) (no_posts no_name)
+unfoldable pub join_keeps : (id : ℕ) (v : View) (other : ℕ) (w : View) → w.named ≡ v.named → Joins Ruled id v other w (both v w) (no_posts no_name)
 join_keeps id v other w named s rule at apart at' =
     let n : Named = rule.named in let h = rule.kept in let c : Posts = h.posts in
     let vs : List View = set s.views id (both v w) in
@@ -83,7 +83,7 @@ join_keeps id v other w named s rule at apart at' =
 
 -- ---- a seat without posts is split off
 
-pub empty_seat_keeps : (id : ℕ) (v : View) → Splits Ruled id v v (no_posts v.named)
+unfoldable pub empty_seat_keeps : (id : ℕ) (v : View) → Splits Ruled id v v (no_posts v.named)
 empty_seat_keeps id v s rule at =
     let n : Named = rule.named in let h = rule.kept in
     let same : set s.views id v ≡ s.views = set_again s.views id v at in
@@ -105,14 +105,14 @@ empty_seat_keeps id v s rule at =
 
 module _ (n : Named) (id : ℕ) where
   -- a post that isn't the one with this number has its seat as before
-  kept_home : (home : ℕ → ℕ) (number fresh p j : ℕ) → p ≢ number → home p ≡ j → put number fresh home p ≡ j
+  pub kept_home : (home : ℕ → ℕ) (number fresh p j : ℕ) → p ≢ number → home p ≡ j → put number fresh home p ≡ j
   kept_home home number fresh p j ne e = put_other number fresh home p ne ∙ e
 
   -- a post at another seat isn't this one, which is here
-  elsewhere : (home : ℕ → ℕ) (number p j : ℕ) → home number ≡ id → home p ≡ j → j ≢ id → p ≢ number
+  pub elsewhere : (home : ℕ → ℕ) (number p j : ℕ) → home number ≡ id → home p ≡ j → j ≢ id → p ≢ number
   elsewhere home number p j here e ne t = ne (sym e ∙ ap home t ∙ here)
 
-  pub leader_split : (k : HeldLeader) (ks : List HeldLeader) (ls : List HeldLagger) → Each (λ (x : HeldLeader). x.number ≢ k.number) ks
+  unfoldable pub leader_split : (k : HeldLeader) (ks : List HeldLeader) (ls : List HeldLagger) → Each (λ (x : HeldLeader). x.number ≢ k.number) ks
       → Splits Ruled id record { named = n; leaders = k ∷ ks; laggers = ls } record { named = n; leaders = ks; laggers = ls }
       record { named = n; leaders = rested_leader k ∷ []; laggers = [] }
   leader_split k ks ls apart s rule at =
@@ -154,7 +154,7 @@ module _ (n : Named) (id : ℕ) where
         };
       }
 
-  pub lagger_split : (k : HeldLagger) (ks : List HeldLeader) (ls : List HeldLagger) → Each (λ (x : HeldLagger). x.number ≢ k.number) ls
+  unfoldable pub lagger_split : (k : HeldLagger) (ks : List HeldLeader) (ls : List HeldLagger) → Each (λ (x : HeldLagger). x.number ≢ k.number) ls
       → Splits Ruled id record { named = n; leaders = ks; laggers = k ∷ ls } record { named = n; leaders = ks; laggers = ls }
       record { named = n; leaders = []; laggers = rested_lagger n.parts k ∷ [] }
   lagger_split k ks ls apart s rule at =

@@ -1,3 +1,5 @@
 pub mod Views
+pub mod Events
 pub mod Rule
 pub mod Plays
+pub mod Laws

@@ -167,7 +167,7 @@ pub look_seen : (old now next : Seat ℕ View) (p number found : ℕ) → number
     → FindsLeader number found now.me next.me → Looking old (p + 1) next
 look_seen old now next p number found e numbers l h board t =
     let u : FindsLeader p found now.me next.me = subst (λ (q : ℕ). FindsLeader q found now.me next.me) e t in
-    look_more old now next p found numbers l h board u.0 u.1.0 u.1.3
+    look_more old now next p found numbers l h board u.0 u.1.0.now u.1.3
 
 -- what leaders are once they have seen the fire word
 leaders_caught : (c : Posts) (f : ℕ) → f ≡ c.fire → (ls : List HeldLeader) → map rested_leader (map (saw_fire f) ls) ≡ map (caught_leader c) ls

@@ -1,12 +1,17 @@
 -- What the seat in a post allows, and what it is after a step.
-use Rattle.std.proofs.Common.{◌≡◌, ℕ, ◌+◌, ◌%◌, ◌^◌, ◌<◌, ◌≤◌, min, List, [], map, length, refl, sym, ap, ◌∙◌, subst, arith}
+use Rattle.std.proofs.Common.{◌≡◌, ℕ, ◌+◌, ◌%◌, ◌^◌, ◌<◌, ◌≤◌, min, true, false, List, [], ◌∷◌, map, length, refl, sym, ap, ◌∙◌, subst, arith}
 use Rattle.std.proofs.lemmas.Grind.{merely}
+use Rattle.std.proofs.lemmas.List.{get_or-set_same}
 use Rattle.atomic_table.specs.Table.{Me, Step, Allows}
-use Rattle.token_net.specs.Posts.{Leader, Lagger, Posts, PostsHold, MayRaise, MayHalt, MayReport, HasSeenFar, present, sight, with_sight, most_rows}
+use Rattle.token_net.specs.Posts.{Sight, Leader, Lagger, Posts, PostsHold, MayRaise, MayHalt, MayReport, HasSeenFar, present, sight, with_sight, most_rows}
+use Rattle.token_net.specs.Network.{Event, raise, halt, fire, see, lag_raise, see_fire}
 use Rattle.board_rule.specs.Views.{HeldLeader, HeldLagger, course}
+use Rattle.board_rule.specs.Events.{posts_after}
 use Rattle.board_rule.specs.Rule.{Each, Ruled, fire_word, leader_word, lagger_word}
-use Rattle.board_rule.specs.Plays.{Stood, with_leaders, with_laggers, leader_view, lagger_view, raises, halts, reports, sees_fire, FindsLeader, sees_leader, lag_raises, number_at, sight_in, saw_fire, saw_leader}
-use Rattle.gang_board.specs.Seats.{leader_looks_of, lagger_looks_of, IsLeaderSeat, IsLaggerSeat}
+use Rattle.board_rule.specs.Plays.{Stood, Happened, by_leaders, by_laggers, posts_view, with_leaders, with_laggers, leader_view, lagger_view, raises, halts, reports, sees_fire, FindsLeader, sees_leader, lag_raises, number_at, sight_in}
+use Rattle.board_rule.specs.Plays.{raised_leader, halted_leader, reported_leader, saw_fire, saw_leader, raised_lagger}
+use Rattle.token_net.proofs.Places.{put_same}
+use Rattle.gang_board.specs.Seats.{leader_looks_of, lagger_looks_of, LeaderMoved, LaggerMoved, IsLeaderSeat, IsLaggerSeat}
 use Rattle.board_rule.specs.Plays.{Grows}
 use Rattle.board_rule.specs.declared.view.View.{View}
 use Rattle.board_rule.proofs.Steps.{raise_keeps, halt_keeps, report_keeps, see_fire_keeps, see_leader_keeps, lag_raise_keeps}
@@ -51,14 +56,36 @@ module _ (words p : ℕ) (x : Leader) (me : Me ℕ View) (seat : IsLeaderSeat wo
   pub fire_falls : (found : ℕ) (st : Step ℕ) (now : Me ℕ View) → sees_fire st me found now → found ≤ x.seen
   fire_falls found st now finds = (subst (Each (λ (k : HeldLeader). found ≤ k.post.seen)) seat.leaders finds.1.2).0
 
-  pub found_fire : (found : ℕ) (st : Step ℕ) (now : Me ℕ View) → sees_fire st me found now
-      → (c : Posts) × PostsHold (course me.0.named) c × (record x { seen = found } ≡ c.leader p) × (c.fire ≡ found)
-  found_fire found st now finds = let t = finds.1.0 in (
-    t.posts,
-    t.holds,
-    (subst (λ (l : List HeldLeader). Each (λ (k : HeldLeader). (k.number < me.0.named.parts) × (k.post ≡ t.posts.leader k.number)) (map (saw_fire found) l)) seat.leaders t.leaders).0.1,
-    finds.1.1,
-  )
+  -- the events of a step of the seat are one, by its post
+  pub leader_moved : (e : ℕ → Event) (g : HeldLeader → HeldLeader) → (g has_leader).number ≡ p
+      → Happened (by_leaders e me.0.leaders) me.0 (with_leaders g me.0) → LeaderMoved me.0.named (e p) p x (g has_leader).post
+  leader_moved e g same happened =
+      let t : Happened (e p ∷ []) (leader_view me.0.named has_leader) (leader_view me.0.named (g has_leader)) =
+      subst (λ (l : List HeldLeader × List HeldLagger). Happened (by_leaders e l.0) (posts_view me.0.named l.0 l.1) (posts_view me.0.named (map g l.0) l.1))
+      (λ i. (seat.leaders i, seat.laggers i)) happened in
+      record {
+        before = t.before.posts;
+        held = t.before.holds;
+        was = t.before.leaders.0.1;
+        allowed = t.allowed.0;
+        holds = subst (PostsHold (course me.0.named)) t.made t.now.holds;
+        is = t.now.leaders.0.1 ∙ (λ i. (t.made i).leader (same i));
+      }
+
+  pub raise_moved : (st : Step ℕ) (found : ℕ) (now : Me ℕ View) → raises st me found now → LeaderMoved me.0.named (raise p) p x (record x { at = x.at + 1 })
+  raise_moved st found now makes = leader_moved raise raised_leader refl makes.1
+
+  pub halt_moved : (st : Step ℕ) (found : ℕ) (now : Me ℕ View) → halts st me found now → LeaderMoved me.0.named (halt p) p x (record x { halted = true })
+  halt_moved st found now makes = leader_moved halt halted_leader refl makes.1
+
+  pub report_moved : (st : Step ℕ) (found : ℕ) (now : Me ℕ View) → reports st me found now → LeaderMoved me.0.named (fire p) p x (record x { reported = true })
+  report_moved st found now makes = leader_moved fire reported_leader refl makes.1
+
+  pub fire_moved : (found : ℕ) (st : Step ℕ) (now : Me ℕ View) → sees_fire st me found now
+      → (h : LeaderMoved me.0.named (see_fire p) p x (record x { seen = found })) × (found ≡ h.before.fire)
+  fire_moved found st now finds =
+      let h = leader_moved see_fire (saw_fire found) refl finds.1.0 in
+      (h, ap (λ (z : Leader). z.seen) (h.is ∙ put_same p (record (h.before.leader p) { seen = h.before.fire }) h.before.leader))
 
   pub see_fire_allowed : (slots id : ℕ) (st : Step ℕ) → Allows Ruled slots id me fire_word (λ w. w) (sees_fire st me)
   see_fire_allowed slots id st = subst (λ (m : Me ℕ View). Allows Ruled slots id m fire_word (λ w. w) (sees_fire st m))
@@ -125,14 +152,37 @@ module _ (words q : ℕ) (y : Lagger) (me : Me ℕ View) (seat : IsLaggerSeat wo
   pub seen_grows : (p found : ℕ) (now : Me ℕ View) → FindsLeader p found me now → Grows (sight y p) (sight_in found)
   seen_grows p found now finds = (subst (Each (λ (k : HeldLagger). Grows (sight k.post p) (sight_in found))) seat.laggers finds.1.2).0
 
-  pub found_leader : (p found : ℕ) (now : Me ℕ View) → FindsLeader p found me now
-      → (c : Posts) × PostsHold (course me.0.named) c × (with_sight p (sight_in found) y ≡ c.lagger q) × (sight_in found ≡ present (c.leader p))
-  found_leader p found now finds = let t = finds.1.0 in (
-    t.posts,
-    t.holds,
-    (subst (λ (l : List HeldLagger). Each (λ (k : HeldLagger). (k.number < me.0.named.parts) × (k.post ≡ t.posts.lagger k.number)) (map (saw_leader p (sight_in found)) l)) seat.laggers t.laggers).0.1,
-    finds.1.1,
-  )
+  -- the events of a step of the seat are one, by its post
+  pub lagger_moved : (e : ℕ → Event) (g : HeldLagger → HeldLagger) → (g has_lagger).number ≡ q
+      → Happened (by_laggers e me.0.laggers) me.0 (with_laggers g me.0) → LaggerMoved me.0.named (e q) q y (g has_lagger).post
+  lagger_moved e g same happened =
+      let t : Happened (e q ∷ []) (lagger_view me.0.named has_lagger) (lagger_view me.0.named (g has_lagger)) =
+      subst (λ (l : List HeldLeader × List HeldLagger). Happened (by_laggers e l.1) (posts_view me.0.named l.0 l.1) (posts_view me.0.named l.0 (map g l.1)))
+      (λ i. (seat.leaders i, seat.laggers i)) happened in
+      record {
+        before = t.before.posts;
+        held = t.before.holds;
+        was = t.before.laggers.0.1;
+        allowed = t.allowed.0;
+        holds = subst (PostsHold (course me.0.named)) t.made t.now.holds;
+        is = t.now.laggers.0.1 ∙ (λ i. (t.made i).lagger (same i));
+      }
+
+  pub lag_raise_moved : (st : Step ℕ) (found : ℕ) (now : Me ℕ View) → lag_raises st me found now → LaggerMoved me.0.named (lag_raise q) q y (record y { at = y.at + 1 })
+  lag_raise_moved st found now makes = lagger_moved lag_raise raised_lagger refl makes.1
+
+  pub leader_seen : (p found : ℕ) (now : Me ℕ View) → p < me.0.named.parts → FindsLeader p found me now
+      → (h : LaggerMoved me.0.named (see q p) q y (with_sight p (sight_in found) y)) × (sight_in found ≡ present (h.before.leader p))
+  leader_seen p found now l finds =
+      let h = lagger_moved (λ z. see z p) (saw_leader p (sight_in found)) refl finds.1.0 in
+      let unseen : Sight = record { at = 0; halted = false } in
+      let z : Lagger = h.before.lagger q in
+      let size = seat.sized in let other = h.held.sized q seat.there in (
+        h,
+        sym (get_or-set_same y.sights p (sight_in found) unseen (omega (arith, size, l)))
+            ∙ ap (λ (m : Lagger). sight m p) (h.is ∙ put_same q (with_sight p (present (h.before.leader p)) z) h.before.lagger)
+            ∙ get_or-set_same z.sights p (present (h.before.leader p)) unseen (omega (arith, other, l)),
+      )
 
   pub lagger_bound : HasSeenFar me.0.named.parts me.0.named.lag y → y.at < most_rows
   lagger_bound far = let f = far q seat.there in let w = seat.within q seat.there in let r = seat.board.bound in

@@ -1,10 +1,12 @@
 -- The states of posts, for contracts. This project's own.
 use Rattle.std.specs.Prelude.{◌≡◌, ℕ, ◌+◌, ◌<◌, ◌≤◌, true, false, List, map, length}
 use Rattle.named_run.specs.Named.{end_of, fires}
-use Rattle.token_net.specs.Posts.{Sight, Leader, Lagger, Posts, PostsHold, LeaderRuns, present, with_sight, most_rows}
-use Rattle.board_rule.specs.Views.{Named, course}
+use Rattle.token_net.specs.Posts.{Sight, Leader, Lagger, LeaderRuns, present, with_sight, most_rows}
+use Rattle.token_net.specs.Network.{Event, see, see_fire}
+use Rattle.board_rule.specs.Views.{Named}
 use Rattle.board_rule.specs.Plays.{one_more, looked_at}
 use Rattle.gang_board.specs.Seats.{leader_looks_of, lagger_looks_of, StoodLeader, StoodLagger}
+use Rattle.gang_board.specs.Seats.{LeaderMoved, LaggerMoved}
 use Rattle.gang_board.specs.Sights.{sight_of}
 use Rattle.gang_board.specs.declared.posts.LeaderPost.{LeaderPost}
 use Rattle.gang_board.specs.declared.posts.LagPost.{LagPost}
@@ -55,12 +57,13 @@ pub record MayReportFire (p : LeaderPost) : Type 0 where
   pub new : p.reported ≡ false
   pub fired : fires (leader_named p).run p.number p.position ≡ true
 
--- at one moment all held of posts with this fire word, and the post was among them
-pub record FoundFire (p : LeaderPost) (word : ℕ) : Type 0 where
-  pub posts : Posts
-  pub holds : PostsHold (course (leader_named p)) posts
-  pub is : leader p ≡ posts.leader p.number
-  pub fire : posts.fire ≡ word
+-- the call was this event of the network, by the leader, on the posts of the whole board
+abbrev pub LeaderEvent : (ℕ → Event) → LeaderPost → LeaderPost → Type 0
+LeaderEvent e old new = LeaderMoved (leader_named old) (e old.number) old.number (leader old) (leader new)
+
+-- the call was the leader's look at the fire word, and what it saw was that word
+abbrev pub SawFire : LeaderPost → LeaderPost → Type 0
+SawFire old new = (h : LeaderEvent see_fire old new) × (new.seen ≡ h.before.fire)
 
 -- what holds of every leader's post: its number names a leader, the run has no more rows than a fire word can tell, and
 -- at one moment all held of posts and it was among them
@@ -102,12 +105,13 @@ LaggerRaised old new = LaggerBecomes old new (record (lagger old) { at = old.pos
 abbrev pub LaggerLooks : LagPost → LagPost → ℕ → Sight → Type 0
 LaggerLooks old new k s = LaggerBecomes old new (with_sight k s (lagger old)) (looked_at k (lagger_looks old))
 
--- at one moment all held of posts, the post was among them, and this was there to see of the leader k
-pub record FoundLeader (p : LagPost) (k : ℕ) (s : Sight) : Type 0 where
-  pub posts : Posts
-  pub holds : PostsHold (course (lagger_named p)) posts
-  pub is : lagger p ≡ posts.lagger p.number
-  pub found : s ≡ present (posts.leader k)
+-- the call was this event of the network, by the lagger, on the posts of the whole board
+abbrev pub LaggerEvent : (ℕ → Event) → LagPost → LagPost → Type 0
+LaggerEvent e old new = LaggerMoved (lagger_named old) (e old.number) old.number (lagger old) (lagger new)
+
+-- the call was the lagger's look at the leader k, and this was what there was to see of it
+abbrev pub SawLeader : LagPost → LagPost → ℕ → Sight → Type 0
+SawLeader old new k s = (h : LaggerEvent (λ q. see q k) old new) × (s ≡ present (h.before.leader k))
 
 -- what holds of every lagger's post: the same, and it has a sight of each leader and a count of its looks there
 pub record LaggerStands (p : LagPost) : Type 0 where

@@ -1,9 +1,12 @@
--- What the seat in a post is, and what it tells of the board as it stood at the post's last step. This project's own.
+-- What the seat in a post is, what it tells of the board as it stood at the post's last step, and what a call was of the
+-- network. This project's own.
 use Rattle.std.specs.Prelude.{◌≡◌, ℕ, ◌<◌, ◌≤◌, List, [], ◌∷◌, length}
 use Rattle.atomic_table.specs.Table.{Me}
 use Rattle.named_run.specs.Named.{end_of}
 use Rattle.token_net.specs.Posts.{Leader, Lagger, Posts, PostsHold, sight, most_rows}
+use Rattle.token_net.specs.Network.{Event}
 use Rattle.board_rule.specs.Views.{Named, HeldLeader, HeldLagger, course}
+use Rattle.board_rule.specs.Events.{posts_after, PostsAllow}
 use Rattle.board_rule.specs.Rule.{word_count}
 use Rattle.board_rule.specs.declared.view.View.{View}
 
@@ -27,6 +30,25 @@ pub record StoodLagger (n : Named) (q : ℕ) (y : Lagger) : Type 0 where
   pub posts : Posts
   pub holds : PostsHold (course n) posts
   pub is : y ≡ posts.lagger q
+
+-- one event on the posts of the whole board: before it all held of them, and the leader p's was x; they allowed it; all
+-- holds of what it made of them, and the leader p's is y
+pub record LeaderMoved (n : Named) (e : Event) (p : ℕ) (x y : Leader) : Type 0 where
+  pub before : Posts
+  pub held : PostsHold (course n) before
+  pub was : x ≡ before.leader p
+  pub allowed : PostsAllow (course n) e before
+  pub holds : PostsHold (course n) (posts_after e before)
+  pub is : y ≡ (posts_after e before).leader p
+
+-- the same, by the lagger q's post, which was x and is y
+pub record LaggerMoved (n : Named) (e : Event) (q : ℕ) (x y : Lagger) : Type 0 where
+  pub before : Posts
+  pub held : PostsHold (course n) before
+  pub was : x ≡ before.lagger q
+  pub allowed : PostsAllow (course n) e before
+  pub holds : PostsHold (course n) (posts_after e before)
+  pub is : y ≡ (posts_after e before).lagger q
 
 -- a board that names this run has so many words, and the run has no more rows than a fire word can tell
 pub record IsBoardOf (words : ℕ) (n : Named) : Type 0 where

@@ -2,14 +2,15 @@
 
 ghost use Rattle.std.specs.Prelude.{◌≡◌, ◌<◌, ◌≤◌};
 ghost use Rattle.token_net.specs.Posts.{MayRaise, MayHalt, HasSeenFar, sight};
+ghost use Rattle.token_net.specs.Network.{raise, halt, fire, lag_raise};
 ghost use Rattle.board_rule.specs.Views.{course};
 ghost use Rattle.board_rule.specs.Rule.{leader_word, lagger_word};
 ghost use Rattle.board_rule.specs.Plays.{Grows};
 ghost use Rattle.gang_board.specs.Sights.{sight_of, cycle_of};
-ghost use Rattle.gang_board.specs.PostStates.{leader, leader_named, IsLeaderOf, LeaderRaised, LeaderHalted};
-ghost use Rattle.gang_board.specs.PostStates.{MayReportFire, LeaderReported};
-ghost use Rattle.gang_board.specs.PostStates.{LeaderLooks, FoundFire, lagger, lagger_named, IsLaggerOf, LaggerRaised};
-ghost use Rattle.gang_board.specs.PostStates.{LaggerLooks, FoundLeader};
+ghost use Rattle.gang_board.specs.PostStates.{leader, leader_named, IsLeaderOf, MayReportFire};
+ghost use Rattle.gang_board.specs.PostStates.{LeaderEvent, LeaderRaised, LeaderHalted, LeaderReported, LeaderLooks, SawFire};
+ghost use Rattle.gang_board.specs.PostStates.{lagger, lagger_named, IsLaggerOf};
+ghost use Rattle.gang_board.specs.PostStates.{LaggerEvent, LaggerRaised, LaggerLooks, SawLeader};
 
 use crate::posts::{LagPost, LeaderPost, fire_cycle};
 use crate::seen::Seen;
@@ -23,7 +24,8 @@ use std::alloc::Global;
 pub(crate) const FIRE_WORD: usize = 0;
 
 /// Words that leaders and laggers share: a word for each leader, one for each lagger, and the fire word. Between any
-/// two steps on them `specs/Rule` holds.
+/// two steps on them the rule of `board_rule` holds, so all that holds of posts. Each call is one step, and that step
+/// is one event of the network on the posts of the whole board (clause `event`).
 #[derive(Drop)]
 pub struct Board {
     pub(crate) table: Table<u8, View, Setup, Rule, Global>,
@@ -34,7 +36,8 @@ impl Board {
     pub fn raise(&self, post: &mut LeaderPost)
         requires board { IsLeaderOf self.now post.old }
         requires may { MayRaise (course (leader_named post.old)) post.old.number (leader post.old) }
-        ensures { LeaderRaised post.old post.new }
+        ensures post { LeaderRaised post.old post.new }
+        ensures event { LeaderEvent raise post.old post.new }
     {
         self.table
             .shared
@@ -46,7 +49,8 @@ impl Board {
     pub fn halt(&self, post: &mut LeaderPost)
         requires board { IsLeaderOf self.now post.old }
         requires may { MayHalt (course (leader_named post.old)).rows (leader post.old) }
-        ensures { LeaderHalted post.old post.new }
+        ensures post { LeaderHalted post.old post.new }
+        ensures event { LeaderEvent halt post.old post.new }
     {
         self.table
             .shared
@@ -59,7 +63,8 @@ impl Board {
         requires board { IsLeaderOf self.now post.old }
         requires may { MayReportFire post.old }
         requires cycle { cycle ≡ post.old.position }
-        ensures { LeaderReported post.old post.new }
+        ensures post { LeaderReported post.old post.new }
+        ensures event { LeaderEvent fire post.old post.new }
     {
         self.table
             .shared
@@ -72,7 +77,7 @@ impl Board {
         requires { IsLeaderOf self.now post.old }
         ensures post { LeaderLooks post.old post.new }
         ensures value { result ≡ cycle_of post.new.seen }
-        ensures found { FoundFire post.new post.new.seen }
+        ensures event { SawFire post.old post.new }
         ensures falls { post.new.seen ≤ post.old.seen }
     {
         let found = self
@@ -88,7 +93,7 @@ impl Board {
         requires board { IsLaggerOf self.now post.old }
         requires there { leader < (lagger_named post.old).parts }
         ensures post { LaggerLooks post.old post.new leader (sight_of result) }
-        ensures found { FoundLeader post.new leader (sight_of result) }
+        ensures event { SawLeader post.old post.new leader (sight_of result) }
         ensures grows { Grows (sight (lagger post.old) leader) (sight_of result) }
     {
         let found = self
@@ -107,7 +112,8 @@ impl Board {
     pub fn lag_raise(&self, post: &mut LagPost)
         requires board { IsLaggerOf self.now post.old }
         requires far { HasSeenFar (lagger_named post.old).parts (lagger_named post.old).lag (lagger post.old) }
-        ensures { LaggerRaised post.old post.new }
+        ensures post { LaggerRaised post.old post.new }
+        ensures event { LaggerEvent lag_raise post.old post.new }
     {
         self.table
             .shared

@@ -20,7 +20,7 @@ report_fire-requires-clause-may c =
 
 pub halt-requires-clause-may : goal.halt-requires-clause-may
 halt-requires-clause-may c =
-    let saw = c.see_fire.ensures.post.post in let reported = c.report_fire.ensures.post in
+    let saw = c.see_fire.ensures.post.post in let reported = c.report_fire.ensures.post.post in
     record {
       going = ap (λ (x : Leader). x.halted) saw ∙ ap (λ (x : Leader). x.halted) reported ∙ c.go_on.ensures.halted;
       why = inr (inl (ap (λ (x : Leader). x.reported) saw ∙ ap (λ (x : Leader). x.reported) reported));

@@ -47,4 +47,4 @@ returns c =
     let count = c.requires.count.0 in let low = c.loop-leader-test.false in let high = c.loop-leader.auto.leader-end in
     let all : c.loop-leader.leader ≡ c.args.carrier.now.me.0.named.parts = omega (arith, count, low, high) in
     looked_all c.args.carrier.now c.loop-leader.carrier c.load-2.new.seat c.load-2.result (all_numbers c.args.self.now c.args.carrier.now c.requires.carrier)
-    (subst (λ (p : ℕ). Looking c.args.carrier.now p c.loop-leader.carrier) all inv) last.0 last.2.0 last.2.1.0 last.2.1.1
+    (subst (λ (p : ℕ). Looking c.args.carrier.now p c.loop-leader.carrier) all inv) last.0 last.2.0 last.2.1.0.now last.2.1.1
