@@ -43,6 +43,18 @@ watched = record {
   } ∷ [];
 }
 
+-- a row in which the input is 1, and one in which it is 0; the first of two leaders owns the assertion
+abbrev pub one_fires : RunData
+one_fires = record {
+  flat = watched;
+  order = [];
+  state = record { registers = []; memories = [] };
+  cycle = 0;
+  rows = (1 ∷ []) ∷ (0 ∷ []) ∷ [];
+  owned = (0 ∷ []) ∷ [] ∷ [];
+  carried = [];
+}
+
 -- a thousand rows in which the input is 0, and one in which it is 1; each of sixteen leaders owns the assertion
 unfoldable pub failing_rows : List (List ℕ)
 failing_rows = replicate 1000 (0 ∷ []) ++ (1 ∷ []) ∷ []

@@ -20,6 +20,7 @@ fn give_next<R: Wait + Copy>(give: &mut RuledGive<R>, alloc: Global, cycle: u64)
     requires name { (giver_state give.old).name ≡ record { run = quiet; channel = 0; depth = 2 } }
     requires next { (giver_state give.old).given ≡ cycle }
     ensures name { (giver_state give.new).name ≡ (giver_state give.old).name }
+    ensures queues { (giver_state give.new).queues ≡ (giver_state give.old).queues }
     ensures given { (giver_state give.new).given ≡ (if result then cycle + 1 else cycle) }
 {
     give.give(bare(alloc, cycle)).is_ok()
@@ -102,6 +103,23 @@ fn an_empty_channel_is_closed(rt: HostRuntime) -> Result<(), Fail> {
     assert_eq!(rt; waiting.len(), 1);
     assert_eq!(rt; waiting[0].cycle, 8);
     assert_eq!(rt; pairs.sent(), 0);
+    Ok(())
+}
+
+// A channel that holds two tokens is closed: the oldest comes, with the blank that wasn't reused, and the one that was
+// given counts as sent.
+#[test]
+fn a_full_channel_is_closed(rt: HostRuntime) -> Result<(), Fail> {
+    let alloc = rt.alloc();
+    let mut blanks = Vec::new(alloc);
+    blanks.push(bare(alloc, 0))?;
+    let mut pairs = Ruled::new(rt);
+    let (mut give, take) = pairs.pair::<Brand>(alloc, 0, 2, bare(alloc, 0), blanks)?;
+    assert!(rt; give_next(&mut give, alloc, 1));
+    let (oldest, waiting) = pairs.close(alloc, give, take)?;
+    assert_eq!(rt; oldest.map(|token| token.cycle), Some(0));
+    assert_eq!(rt; waiting.len(), 1);
+    assert_eq!(rt; pairs.sent(), 1);
     Ok(())
 }
 
