@@ -179,12 +179,14 @@ module _ (f : Flat) (order : List ℕ) (rows : List (List ℕ)) (first : ℕ) wh
             → Waves old new before now (wave_of f order rows first (n + 1)) (Err e)
         breaks k fault.Write is text =
             let t = piece_of k (Err fault.Write) is text in (
-              subst (AppendsPart old new) (sym (grown t.piece t.grows)) (part_second old held new (wave_of f order rows first n) t.piece st.took t.writes.part),
+              subst (AppendsPart old new) (sym (grown t.piece t.grows))
+                  (part_second old held new (wave_of f order rows first n) t.piece st.took t.writes.part),
               subst (λ (x : ℕ). Rose x now) st.counted t.writes.cause,
             )
         breaks k fault.Memory is text =
             let t = piece_of k (Err fault.Memory) is text in (
-              subst (AppendsPart old new) (sym (grown t.piece t.grows)) (part_second old held new (wave_of f order rows first n) t.piece st.took t.writes.part),
+              subst (AppendsPart old new) (sym (grown t.piece t.grows))
+                  (part_second old held new (wave_of f order rows first n) t.piece st.took t.writes.part),
               t.writes.cause.1 ∙ st.counted,
             )
 

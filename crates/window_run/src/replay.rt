@@ -1,7 +1,7 @@
 //! Going back over the last cycles of a run, and running them again for their waveform.
 
-ghost use Rattle.std.specs.Prelude.{◌≡◌, ◌≢◌, ◌≤◌, ◌<◌, ◌+◌, ◌-◌, ◌^◌, [], ℕ, List, Option, IsTrue, IsSome, IsSomeAnd, IfOk, OnOk};
-ghost use Rattle.std.specs.Prelude.{length, map, slice_index, slice_index_or};
+ghost use Rattle.std.specs.Prelude.{◌≡◌, ◌≢◌, ◌≤◌, ◌<◌, ◌+◌, ◌-◌, ◌^◌, [], ℕ, List, Option, length, map};
+ghost use Rattle.std.specs.Prelude.{slice_index, slice_index_or, IsTrue, IsSome, IsSomeAnd, IfOk, OnOk};
 ghost use Rattle.std.specs.List.{All};
 ghost use Rattle.netlist.specs.Design as design;
 ghost use Rattle.netlist.specs.Run.{State};
@@ -138,8 +138,8 @@ impl<'a> Screen<'a> {
         requires room { sim.old.cycle < 2 ^ 64 - 1 }
         requires live { IsTrue self.old.live }
         requires begun { self.old.written ≢ progress.Nothing }
-        ensures goes { (f : design.Flat) (order : List ℕ) (all : List (List ℕ)) (first n : ℕ) (held : Option (List ℕ))
-            (count : ℕ) → again.HasWaved f order all first n held (K.held out.old) count (K.faults out.old) sim.old self.old
+        ensures goes { (f : design.Flat) (order : List ℕ) (all : List (List ℕ)) (first n : ℕ) (held : Option (List ℕ)) (count : ℕ)
+            → again.HasWaved f order all first n held (K.held out.old) count (K.faults out.old) sim.old self.old
             → slice_index_or rows.now.rows number [] ≡ slice_index_or all (first + n) []
             → again.Goes f order all first (n + 1) held (K.held out.new) count (K.faults out.new) sim.new self.new
             result }

@@ -9,7 +9,8 @@ abbrev pub invariant-loop-number : goal.invariant-loop-number
 invariant-loop-number g l = record {
   at : (f : Flat) (order : List ℕ) (all : List (List ℕ)) (first : ℕ) → StandsAt f order all first l.fn.sim
       → AreFrom all first l.rows.rows
-      → HasWaved f order all first l.number (g.K.Sink.held l.fn.out) (g.K.Sink.held l.out) (g.K.Sink.faults l.fn.out) (g.K.Sink.faults l.out) l.sim l.screen;
+      → HasWaved f order all first l.number (g.K.Sink.held l.fn.out) (g.K.Sink.held l.out) (g.K.Sink.faults l.fn.out)
+      (g.K.Sink.faults l.out) l.sim l.screen;
   steps : l.steps ≤ l.fn.steps + l.number;
   cycle : l.sim.cycle ≤ l.fn.sim.cycle + l.number;
   flat : l.sim.flat ≡ l.fn.sim.flat;
