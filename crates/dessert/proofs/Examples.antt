@@ -11,7 +11,7 @@ use Rattle.vl_tree.specs.declared.fault.FaultKind.TheVariants as k
 use Rattle.vl_front.specs.Spelled.{fault}
 use Rattle.vl_front.specs.OneModule.{IsOneModule}
 use Rattle.dessert.specs.Answer.{done, refused}
-use Rattle.vcd_text.specs.Vcd.{code}
+use Rattle.waveform.specs.Vcd.{code}
 use Rattle.talk.specs.Words.{sim}
 use Rattle.dessert.specs.Sources.{design_text, Origins, origins_of, spot, spot_in, line_at}
 use Rattle.dessert.specs.Outcome.{Design, AreRefused, output_of, report_of, Judges}

@@ -1,113 +1,66 @@
--- The window of a first failure: it is among the rows that were kept, and its waveform is that of all rows.
-use Rattle.std.proofs.Common.{◌≡◌, ℕ, zero, suc, ◌+◌, ◌*◌, ◌-◌, ◌<◌, ◌≤◌, List, [], ◌∷◌, ◌++◌, length, map, refl, sym, ap, subst, ◌∙◌, arith, inl, inr}
-use Rattle.std.specs.Prelude.{Option, Some, Result, slice_index_or}
-use Rattle.std.proofs.Math.ListN.{get_or-append}
-use Rattle.flat_ir.specs.FlatRun.{Flat, flat_state, flat_next}
-use Rattle.flat_ir.specs.Shown.{flat_scope, flat_shown}
-use Rattle.vcd_text.specs.Vcd.{vcd_text}
-use Rattle.dessert.specs.Outside.{SinkAt}
+-- What is written of a first failure: the waveform of its window, and then the report.
+use Rattle.std.proofs.Common.{◌≡◌, ℕ, ◌+◌, ◌≤◌, List, [], map, sym, ap, subst, inl, inr}
+use Rattle.std.specs.Prelude.{Option, Some, None, Result, Ok, Err, IsSome, IsSomeAnd, is_some}
+use Rattle.design_names.specs.Laws.{StopsAreThere}
+use Rattle.netlist.specs.Design.{Flat}
+use Rattle.waveform.specs.declared.fault.VcdFault.{VcdFault}
+use Rattle.waveform.specs.declared.fault.VcdFault.TheVariants as fault
+use Rattle.window_run.specs.Over.{values_at}
+use Rattle.window_run.specs.Window.{window_start, window_length, window_text, Waves}
+use Rattle.window_run.specs.Progress.{Failure, Progress}
+use Rattle.window_run.specs.Ran.{IsFirst, RanTo}
 use Rattle.talk.specs.declared.answer.Answer.TheVariants as a
 use Rattle.talk.specs.Report.{report_text, failure_text}
-use Rattle.dessert.specs.Reported.{stop_of}
+use Rattle.dessert.specs.Outside.{SinkAt}
 use Rattle.dessert.specs.Answer.{Status, failure, writing, memory}
 use Rattle.dessert.specs.Sources.{Origins}
-use Rattle.dessert.specs.Outcome.{from_on, window_start}
-use Rattle.dessert.specs.Calls.Progress.{Failure, Window, Progress}
-use Rattle.dessert.specs.Calls.Kept.{Holds}
-use Rattle.dessert.specs.Calls.Ran.{KeepsLast, RanTo}
-use Rattle.vcd_text.specs.declared.fault.VcdFault.{VcdFault}
-use Rattle.dessert.specs.Calls.Again.{flat_shown_at, wave_until, Waves}
-use Rattle.dessert.specs.Calls.Writing.{IsLeft, Took, Broke, Stopped, Wrote, Reported, Delivered}
-use Rattle.dessert.proofs.KeptLaws.{lengths}
-use Rattle.dessert.specs.Calls.Written.{out_by, text_by, ended_by, RunIsWritten}
+use Rattle.dessert.specs.Calls.Told.{told_of, AreStops}
+use Rattle.dessert.specs.Calls.Writing.{IsLeft, Wrote, Reported, Delivered}
+use Rattle.dessert.specs.Calls.Written.{ended_by, out_by, text_by, cycles_by, RunIsWritten}
 
--- the same numbers, one after another
-pub from_on_same : (g h : ℕ → List ℕ) (k n : ℕ) → ((t : ℕ) → k ≤ t → t < k + n → g t ≡ h t) → from_on g k n ≡ from_on h k n
-from_on_same g h k zero s = refl
-from_on_same g h k (suc n) s =
-    (λ i. s k (omega arith) (omega arith) i ∷ from_on_same g h (suc k) n (λ t a b. s t (omega (arith, a)) (omega (arith, b))) i)
+-- there is a first failure
+pub is_failed : (o : Option Failure) (x : Failure) → o ≡ Some x → IsSome o
+is_failed o x e = ap is_some e
 
-module _ (f : Flat) (seen behind : List (List ℕ)) where
-  -- rows after them change nothing of what was
-  front_state : (t : ℕ) → t ≤ length seen → flat_state f (seen ++ behind) t ≡ flat_state f seen t
-  front_state zero h = refl
-  front_state (suc t) h =
-      let a = get_or-append seen behind [] t (omega (arith, h)) in
-      let b = front_state t (omega (arith, h)) in
-      ap (λ (r : List ℕ). flat_next f r (flat_state f (seen ++ behind) t)) a ∙ ap (flat_next f (slice_index_or seen t [])) b
+-- the assertions that fired in it have the numbers of stops
+pub fired_there : StopsAreThere → (f : Flat) (rows : List (List ℕ)) (p : Progress) (x : Failure) → p.failure ≡ Some x → RanTo f [] rows p → AreStops f x.fired
+fired_there law f rows p x e r =
+    let first : IsFirst f [] rows (Some x) = subst (IsFirst f [] rows) e r.first in
+    subst (AreStops f) (sym first.1) (law f (values_at f [] rows x.cycle))
 
-  front_shown : (t : ℕ) → t < length seen → flat_shown_at f seen t ≡ flat_shown_at f (seen ++ behind) t
-  front_shown t h =
-      let a = get_or-append seen behind [] t h in
-      let b = front_state t (omega (arith, h)) in
-      sym (ap (λ (r : List ℕ). flat_shown f r (flat_state f (seen ++ behind) t)) a ∙ ap (flat_shown f (slice_index_or seen t [])) b)
+-- what was written of it is what is written of the run
+pub failed_settles : (lag : ℕ) (o : Origins) (f : Flat) (rows : List (List ℕ)) (p : Progress) (x : Failure) (result : Status) (out out' old new : SinkAt) → p.failure ≡ Some x
+    → p.lag ≡ lag → Delivered (out_by p.lag f rows p.failure) (failure_text x.cycle (map (told_of f o) x.fired) (window_start lag x.cycle)) failure result out out' old new
+    → RunIsWritten lag o f rows p result out out' old new
+failed_settles lag o f rows p x result out out' old new e same d =
+    let here : Delivered (out_by lag f rows (Some x)) (text_by lag f o p.cycles (Some x)) (ended_by (Some x)) result out out' old new =
+    subst (λ (z : ℕ × Option Failure). Delivered (out_by z.0 f rows z.1) (text_by lag f o p.cycles (Some x)) failure result out out' old new) (λ i. (same i, e i)) d in
+    subst (λ (y : Option Failure). Delivered (out_by lag f rows y) (text_by lag f o p.cycles y) (ended_by y) result out out' old new) (sym e) here
 
-  front_wave : (first end : ℕ) → end ≤ length seen → wave_until f seen first end ≡ wave_until f (seen ++ behind) first end
-  front_wave first end h =
-      ap (vcd_text (flat_scope f) first) (from_on_same (flat_shown_at f seen) (flat_shown_at f (seen ++ behind)) first (end - first) (λ t a b. front_shown t (omega (arith, a, b, h))))
+-- ---- the waveform
 
--- the kept rows reach back to the window's first cycle
-reaches : (f : Flat) (seen : List (List ℕ)) (w : Window) (c lag : ℕ) → Holds f seen w → length seen ≡ suc c → lag < w.period → w.end ≤ (c - lag) + (w.older_count + w.newer_count)
-reaches f seen w c lag h n p =
-    let l = lengths seen h.front h.olds h.news h.whole in
-    elim h.full [
-      | inl z ↦ omega (arith, z, l, h.end, h.older_count, h.newer_count)
-      | inr z ↦ omega (arith, z, l, n, p, h.end, h.older_count, h.newer_count)
-    ]
+-- of a sink, a text was written or a front of it
+abbrev pub WavesAt : SinkAt → SinkAt → List ℕ → Result (Unit {0}) VcdFault → Type 0
+WavesAt old new text result = Waves old.held new.held old.faults new.faults text result
 
-module _ (f : Flat) (rows : List (List ℕ)) (p : Progress) (x : Failure) (is : p.failure ≡ Some x) (r : RanTo f rows p) where
-  abbrev pub kept : KeepsLast f rows p.cycle p.window (Some x)
-  kept = subst (KeepsLast f rows p.cycle p.window) is r.ran.kept
+pub waves_by : (lag : ℕ) (f : Flat) (rows : List (List ℕ)) (o : Option Failure) (old new : SinkAt) (result : Result (Unit {0}) VcdFault)
+    → IsSomeAnd o (λ x. WavesAt old new (window_text f [] rows lag x.cycle) result) → WavesAt old new (out_by lag f rows o) result
+waves_by lag f rows None old new result w = absurd w
+waves_by lag f rows (Some x) old new result w = w
 
-  -- the rows up to the failure
-  abbrev pub seen : List (List ℕ)
-  seen = kept.1
+pub steps_by : (lag : ℕ) (o : Option Failure) (before now : ℕ) → IsSomeAnd o (λ x. now ≤ before + window_length lag x.cycle) → now ≤ before + cycles_by lag o
+steps_by lag None before now w = absurd w
+steps_by lag (Some x) before now w = w
 
-  pub holds : Holds f seen p.window
-  holds = kept.5
+module _ (text report : List ℕ) (result : Status) (out out' old new : SinkAt) where
+  -- the waveform was written, and then the report
+  pub both_written : WavesAt out out' text (Ok tt) → Reported report failure result old new → Delivered text report failure result out out' old new
+  both_written w r = inl (w, r)
 
-  pub reach : (lag : ℕ) → lag < p.window.period → p.window.end ≤ window_start lag x.cycle + (p.window.older_count + p.window.newer_count)
-  reach lag h = reaches f seen p.window x.cycle lag holds kept.4 h
+  -- a front of the waveform was written, and then the line that says so
+  pub wave_failed : WavesAt out out' text (Err fault.Write) → Wrote (report_text a.OutputFailed) writing result old new → Delivered text report failure result out out' old new
+  wave_failed w r = inr (inl ((w.1, w.0), r))
 
-  pub within : (lag : ℕ) → window_start lag x.cycle < length seen
-  within lag = omega (arith, kept.4)
-
-  wave_is : (first : ℕ) → wave_until f seen first (length seen) ≡ wave_until f rows first (suc x.cycle)
-  wave_is first =
-      front_wave f seen kept.2 first (length seen) (omega arith) ∙ ap (λ (y : List (List ℕ)). wave_until f y first (length seen)) (sym kept.3) ∙ ap (wave_until f rows first) kept.4
-
-  -- what was promised of these rows and this window
-  pub told : (lag first : ℕ) (g : Flat) (v : Window) (o o' : SinkAt) (result : Result (Unit {0}) VcdFault) → g ≡ f → v ≡ p.window → first ≡ window_start lag x.cycle → lag < p.window.period
-      → ((rs : List (List ℕ)) → Holds g rs v → v.end ≤ first + (v.older_count + v.newer_count) → first < length rs → Waves o o' (wave_until g rs first (length rs)) result)
-      → Waves o o' (wave_until f seen (window_start lag x.cycle) (length seen)) result
-  told lag first g v o o' result a b c enough waves =
-      subst (λ (z : Flat × Window × ℕ). (rs : List (List ℕ)) → Holds z.0 rs z.1 → z.1.end ≤ z.2 + (z.1.older_count + z.1.newer_count) → z.2 < length rs → Waves o o' (wave_until z.0 rs z.2 (length rs)) result)
-      (λ i. (a i, b i, c i)) waves seen holds (reach lag enough) (within lag)
-
-  -- the rows are kept, whatever names the design and the window have
-  pub kept_by : (g : Flat) (v : Window) → g ≡ f → v ≡ p.window → (rs : List (List ℕ)) × Holds g rs v
-  kept_by g v a b = (seen, subst (λ (z : Flat × Window). Holds z.0 seen z.1) (λ i. (sym a i, sym b i)) holds)
-
-  -- two periods of rows are kept at most
-  pub few_kept : (v : Window) → v ≡ p.window → v.older_count + v.newer_count ≤ 2 * p.window.period
-  few_kept v e = subst (λ (z : Window). z.older_count + z.newer_count ≤ 2 * p.window.period) (sym e)
-      (omega (arith, holds.older_count, holds.newer_count, holds.older_few, holds.within))
-
-  module _ (lag : ℕ) (origins : Origins) (result : Status) (o o' h h' : SinkAt) where
-    settles_by : Delivered (wave_until f rows (window_start lag x.cycle) (suc x.cycle)) (failure_text x.cycle (map (stop_of f.name origins) x.fired) (window_start lag x.cycle)) failure result o o' h h'
-        → RunIsWritten lag origins f rows p result o o' h h'
-    settles_by d = subst (λ (y : Option Failure). Delivered (out_by lag f rows y) (text_by lag f.name origins p.cycles y) (ended_by y) result o o' h h') (sym is) d
-
-    -- the waveform was written, and then the report
-    pub both_written : Took o o' (wave_until f seen (window_start lag x.cycle) (length seen))
-        → Reported (failure_text x.cycle (map (stop_of f.name origins) x.fired) (window_start lag x.cycle)) failure result h h' → RunIsWritten lag origins f rows p result o o' h h'
-    both_written a t = settles_by (inl (subst (Took o o') (wave_is (window_start lag x.cycle)) a, t))
-
-    -- a front of the waveform was written, and then the line that says so
-    pub wave_failed : Broke o o' (wave_until f seen (window_start lag x.cycle) (length seen)) → Wrote (report_text a.OutputFailed) writing result h h'
-        → RunIsWritten lag origins f rows p result o o' h h'
-    wave_failed a t = settles_by (inr (inl (subst (Broke o o') (wave_is (window_start lag x.cycle)) a, t)))
-
-    -- a front of the waveform was written, and there was no memory for more
-    pub wave_stopped : Stopped o o' (wave_until f seen (window_start lag x.cycle) (length seen)) → result ≡ memory → IsLeft h h' → RunIsWritten lag origins f rows p result o o' h h'
-    wave_stopped a e k = settles_by (inr (inr (e, subst (Stopped o o') (wave_is (window_start lag x.cycle)) a, k)))
+  -- a front of the waveform was written, and there was no memory for more
+  pub wave_stopped : WavesAt out out' text (Err fault.Memory) → result ≡ memory → IsLeft old new → Delivered text report failure result out out' old new
+  wave_stopped w e k = inr (inr (e, w, k))

@@ -1,6 +1,6 @@
 -- Running over the rows of a source: what a call of the reader adds.
 use Rattle.std.proofs.Common.{◌≡◌, ℕ, ◌+◌, ◌-◌, ◌==◌, ◌<◌, ◌≤◌, List, [], ◌∷◌, ◌++◌, length, drop, refl, sym, ap, subst, ◌∙◌, arith, length-append, length-drop, true, false, cond}
-use Rattle.std.specs.Prelude.{Result, Ok, Err, Bool, slice_index}
+use Rattle.std.specs.Prelude.{Result, Ok, Err, Bool}
 use Rattle.std.specs.List.{count_by}
 use Rattle.std.specs.Io.KnownBytes.{Consumes}
 use Rattle.std.proofs.KnownBytes.{Consumes-nil, Consumes-trans}
@@ -8,7 +8,11 @@ use Rattle.std.proofs.lemmas.List.{length-map}
 use Rattle.std.proofs.lemmas.List.Sums.{sum_by-cons, sum_by-append}
 use Rattle.dt_core.specs.Causes.{Rose}
 use Rattle.dt_core.specs.declared.limits.TheConstants.{MAX_ROWS}
-use Rattle.flat_ir.specs.FlatRun.{Flat}
+use Rattle.netlist.specs.Design.{Flat}
+use Rattle.net_compile.specs.Cycle.{RowFits}
+use Rattle.vl_stands.specs.StandsFor.{input_names}
+use Rattle.window_run.specs.Progress.{Progress}
+use Rattle.window_run.specs.Ran.{RanTo}
 use Rattle.stimulus.specs.declared.refusal.StimFault.{StimFault}
 use Rattle.stimulus.specs.declared.refusal.StimFault.TheVariants as s
 use Rattle.stimulus.specs.Stimulus as text
@@ -20,11 +24,9 @@ use Rattle.stimulus.proofs.FitLaws.{lines_fit}
 use Rattle.dessert.specs.Outside.{SourceAt}
 use Rattle.dessert.specs.Inputs.{bits_named}
 use Rattle.dessert.specs.Steps.{rows_in}
-use Rattle.dessert.specs.Calls.Progress.{Progress}
-use Rattle.dessert.specs.Calls.Ran.{RanTo}
+use Rattle.dessert.specs.Calls.Told.{TakesBits}
 use Rattle.dessert.specs.Calls.Rows.{RanAll, StepsEach}
 use Rattle.dessert.proofs.InputLaws as inputs
-use Rattle.dessert.proofs.RanLaws.{within_rows}
 
 -- ---- rows as lines
 
@@ -60,12 +62,12 @@ pub record Far (flat : Flat) (names : List (List ℕ)) (start now : SourceAt) (r
   pub counted : now.faults ≡ start.faults
   pub inputs : reader.inputs ≡ bits_named names
   pub reads : Reads reader taken rows
-  pub ran : RanTo flat rows run
+  pub ran : RanTo flat [] rows run
   pub few : steps ≤ first + length rows
 
 -- no row yet
 pub none_yet : (flat : Flat) (names : List (List ℕ)) (start : SourceAt) (reader : Reader) (run : Progress) (n : ℕ) → reader.inputs ≡ bits_named names
-    → Reads reader [] [] → RanTo flat [] run → Far flat names start start reader run n n
+    → Reads reader [] [] → RanTo flat [] [] run → Far flat names start start reader run n n
 none_yet flat names start reader run n i r ran =
     record { rows = []; taken = []; consumed = Consumes-nil start.left; counted = refl; inputs = i; reads = r; ran = ran; few = omega arith }
 
@@ -101,7 +103,7 @@ module _ (flat : Flat) (names : List (List ℕ)) (start now next : SourceAt) (re
 
   -- a row more
   pub one_row : Came (Ok true) → (run' : Progress) (steps' : ℕ) → steps' ≤ steps + 1
-      → ((rs : List (List ℕ)) → RanTo flat rs run → RanTo flat (rs ++ reader'.layout.row ∷ []) run') → Far flat names start next reader' run' first steps'
+      → ((rs : List (List ℕ)) → RanTo flat [] rs run → RanTo flat [] (rs ++ reader'.layout.row ∷ []) run') → Far flat names start next reader' run' first steps'
   one_row a run' steps' n goes = record {
     rows = far.rows ++ reader'.layout.row ∷ [];
     taken = far.taken ++ a.0;
@@ -133,33 +135,27 @@ module _ (flat : Flat) (names : List (List ℕ)) (start now next : SourceAt) (re
   row_fits : Came (Ok true) → Fit (bits_named names) reader'.layout.row
   row_fits a = inputs.last_fits (bits_named names) far.rows reader'.layout.row (all_fit a)
 
+  -- so it fits a design whose inputs have one bit
+  pub row_taken : names ≡ input_names flat → TakesBits flat → Came (Ok true) → RowFits flat reader'.layout.row
+  row_taken are bits a = inputs.row_fits flat reader'.layout.row far.ran.fits bits (subst (λ ns. Fit (bits_named ns) reader'.layout.row) are (row_fits a))
+
   -- the row has a value for each input
   pub row_length : Came (Ok true) → length reader'.layout.row ≡ length names
   row_length a = inputs.row_length names reader'.layout.row (row_fits a)
 
   -- there is room for one row more
   pub room : Came (Ok true) → run.cycles < MAX_ROWS
-  room a = let l = length-append far.rows (reader'.layout.row ∷ []) in let f = all_fit a in omega (arith, far.ran.count, f.0, l)
-
-  -- of the rows, and of those that are kept, and of cycles
-  pub rooms : Came (Ok true) → (run.cycles < 4294967295) × (run.cycle < 4294967295) × (run.window.end < 4294967295)
-  rooms a =
-      let w = within_rows flat far.rows run.cycle run.window run.failure far.ran.ran.kept in
-      (omega (arith, room a), omega (arith, room a, w.0, far.ran.count), omega (arith, room a, w.1, far.ran.count))
-
-  -- each value is a bit
-  pub bits : Came (Ok true) → (k : ℕ) → k < length reader'.layout.row → slice_index reader'.layout.row k < 256
-  bits a k h = inputs.small names reader'.layout.row (row_fits a) k h
+  room a = let l = length-append far.rows (reader'.layout.row ∷ []) in let f = all_fit a in omega (arith, far.ran.taken, f.0, l)
 
   -- fewer rows may follow
-  pub smaller : Came (Ok true) → (run' : Progress) → ((rs : List (List ℕ)) → RanTo flat rs run → RanTo flat (rs ++ reader'.layout.row ∷ []) run')
+  pub smaller : Came (Ok true) → (run' : Progress) → ((rs : List (List ℕ)) → RanTo flat [] rs run → RanTo flat [] (rs ++ reader'.layout.row ∷ []) run')
       → MAX_ROWS + 1 - run'.cycles < MAX_ROWS + 1 - run.cycles
   smaller a run' goes =
       let l = length-append far.rows (reader'.layout.row ∷ []) in
       let r = goes far.rows far.ran in
-      omega (arith, r.count, far.ran.count, l, room a)
+      omega (arith, r.taken, far.ran.taken, l, room a)
 
-  pub at_end : Came (Ok false) → RanAll flat (bits_named names) start next run (Ok tt)
+  pub at_end : Came (Ok false) → RanAll flat (bits_named names) start next first steps run (Ok tt)
   at_end a = (
     a.2.2 ∙ far.counted,
     far.rows,
@@ -169,9 +165,10 @@ module _ (flat : Flat) (names : List (List ℕ)) (start now next : SourceAt) (re
     subst (λ is. text.stimulus is (far.taken ++ a.0) ≡ text.rows far.rows) inputs_are a.2.0,
     rows_fit names reader far.taken far.rows far.inputs far.reads,
     far.ran,
+    omega (arith, far.few, rows_are_in reader far.taken far.rows far.reads, more_lines far.taken a.0),
   )
 
-  pub failed : (e : StimFault) → Came (Err e) → RanAll flat (bits_named names) start next run (Err e)
+  pub failed : (e : StimFault) → Came (Err e) → RanAll flat (bits_named names) start next first steps run (Err e)
   failed (s.Refused r) a = (
     a.2.3 ∙ far.counted,
     far.taken ++ a.0,

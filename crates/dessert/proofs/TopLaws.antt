@@ -1,5 +1,5 @@
 -- The exits of the top call, over plain values: from what a step promises to the answer.
-use Rattle.std.proofs.Common.{◌≡◌, ℕ, true, List, map, refl, sym, ap, subst, ◌∙◌, inl, inr}
+use Rattle.std.proofs.Common.{◌≡◌, ◌≤◌, ◌+◌, ℕ, true, List, [], map, refl, sym, ap, subst, ◌∙◌, inl, inr}
 use Rattle.std.specs.Prelude.{Option, Some, None, Result, Ok, Err, IfOk, codes}
 use Rattle.std.specs.Borrow.{Bor}
 use Rattle.std.specs.Io.KnownBytes.{Keeps}
@@ -17,8 +17,11 @@ use Rattle.stimulus.specs.declared.refusal.StimFault.TheVariants as s
 use Rattle.stimulus.specs.Refusals.{is_truncated}
 use Rattle.stimulus.specs.Stimulus as text
 use Rattle.stimulus.specs.Fits.{AreRows}
-use Rattle.flat_ir.specs.FlatRun.{Flat}
-use Rattle.flat_ir.specs.Names.{input_names}
+use Rattle.netlist.specs.Design.{Flat}
+use Rattle.design_names.specs.Laws.{StopsAreThere}
+use Rattle.vl_stands.specs.StandsFor.{input_names}
+use Rattle.window_run.specs.Progress.{Progress}
+use Rattle.window_run.specs.Ran.{RanTo}
 use Rattle.vl_tree.specs.Fault.{name_of}
 use Rattle.vl_front.specs.Spelled.{Fault}
 use Rattle.vl_front.specs.FirstFault.{HasFirst}
@@ -28,17 +31,16 @@ use Rattle.dessert.specs.Outside.{SinkAt, Outside}
 use Rattle.dessert.specs.Answer.{Status, design, input, file, reading, memory, Ready, FileCause, Answers}
 use Rattle.dessert.specs.Inputs.{bits_named, inputs_of}
 use Rattle.dessert.specs.Sources.{line_count, Origins, origins_of, spot_in}
+use Rattle.dessert.specs.Steps.{AreFew}
 use Rattle.dessert.specs.Reported.{fault_at, refusal_report}
 use Rattle.dessert.specs.Outcome.{layers, Design}
 use Rattle.dessert.specs.Calls.Loading.{IsFront}
 use Rattle.dessert.specs.Calls.Led.{LedToText, LedToDesign}
-use Rattle.dessert.specs.Calls.Progress.{Progress}
-use Rattle.dessert.specs.Calls.Ran.{RanTo}
 use Rattle.dessert.specs.Calls.Rows.{RanAll}
-use Rattle.dessert.specs.Calls.Written.{RunIsWritten, GivesUp}
+use Rattle.dessert.specs.Calls.Written.{cycles_by, RunIsWritten, GivesUp}
 use Rattle.dessert.specs.Calls.Writing.{IsLeft, Wrote, Reported}
 use Rattle.dessert.proofs.Cases.{Stands, plain_answers, memory_answers, reported_answers}
-use Rattle.dessert.proofs.SettledLaw.{settled}
+use Rattle.dessert.proofs.SettledLaw.{settled, few_settled}
 
 -- a sink of which nothing was asked
 pub left_as : (k : SinkAt) → IsLeft k k
@@ -135,24 +137,36 @@ module _ (words : List (List ℕ)) (old new : Outside) (lag : ℕ) (o : Origins)
     accepted = record { is_design = led.is_design; origins = origins_are o led.files led.counts };
   }
 
-  inputs : bits_named (input_names x.signals) ≡ inputs_of led.the_module
-  inputs = ap bits_named (ap (λ (y : Flat). input_names y.signals) same ∙ led.stands.inputs)
+  inputs : bits_named (input_names x) ≡ inputs_of led.the_module
+  inputs = ap bits_named (ap input_names same ∙ led.stands.inputs)
 
   -- the run came to the end of the rows
-  pub ran_answers : (p : Progress) (result : Status) → new.files.faults ≡ old.files.faults
-      → RanAll x (bits_named (input_names x.signals)) old.source new.source p (Ok tt)
-      → ((rows : List (List ℕ)) → RanTo x rows p → RunIsWritten lag o x rows p result old.out new.out old.report new.report)
-      → Answers layers words old new result
-  ran_answers p result s r d =
-      settled words old new asked_job flat led.the_module o r.1 r.2 p result led.stands led.is_design.here.sound ready s r.0 r.3 r.4
-      (subst (λ is. text.stimulus is r.2 ≡ text.rows r.1) inputs r.5) (subst (λ is. AreRows is r.1) inputs r.6) (subst (λ (y : Flat). RanTo y r.1 p) same r.7)
-      (subst (λ (y : Flat). RunIsWritten lag o y r.1 p result old.out new.out old.report new.report) same (d r.1 r.7))
+  module _ (p : Progress) (mid : ℕ) (r : RanAll x (bits_named (input_names x)) old.source new.source old.steps mid p (Ok tt)) where
+    are_there : RanTo flat [] r.1 p
+    are_there = subst (λ (y : Flat). RanTo y [] r.1 p) same r.7
+
+    is_read : text.stimulus (inputs_of led.the_module) r.2 ≡ text.rows r.1
+    is_read = subst (λ is. text.stimulus is r.2 ≡ text.rows r.1) inputs r.5
+
+    are_rows : AreRows (inputs_of led.the_module) r.1
+    are_rows = subst (λ is. AreRows is r.1) inputs r.6
+
+    pub ran_answers : StopsAreThere → (result : Status) → new.files.faults ≡ old.files.faults
+        → ((rows : List (List ℕ)) → RanTo x [] rows p → RunIsWritten lag o x rows p result old.out new.out old.report new.report)
+        → Answers layers words old new result
+    ran_answers law result s d =
+        settled words old new asked_job flat led.the_module o r.1 r.2 p led.stands led.is_design.here.sound ready r.3 is_read are_rows are_there law result s r.0 r.4
+        (subst (λ (y : Flat). RunIsWritten lag o y r.1 p result old.out new.out old.report new.report) same (d r.1 r.7))
+
+    pub ran_few : new.steps ≤ mid + cycles_by lag p.failure → AreFew words old new
+    ran_few n =
+        few_settled words old new asked_job flat led.the_module o r.1 r.2 p led.stands led.is_design.here.sound ready r.3 is_read are_rows are_there mid r.8 n
 
   -- the run gave up
-  pub given_up : (e : StimFault) (p : Progress) (result : Status) → new.files.faults ≡ old.files.faults → IsLeft old.out new.out
-      → RanAll x (bits_named (input_names x.signals)) old.source new.source p (Err e)
+  pub given_up : (e : StimFault) (p : Progress) (mid : ℕ) (result : Status) → new.files.faults ≡ old.files.faults → IsLeft old.out new.out
+      → RanAll x (bits_named (input_names x)) old.source new.source old.steps mid p (Err e)
       → GivesUp e result old.report new.report → Answers layers words old new result
-  given_up (s.Refused r) p result st kept ran w =
+  given_up (s.Refused r) p mid result st kept ran w =
       reported_answers layers words old new asked_job led.asked input (refusal_report r) result (
         refl,
         record {
@@ -167,7 +181,7 @@ module _ (words : List (List ℕ)) (old new : Outside) (lag : ℕ) (o : Origins)
         },
       )
       (st, ran.0, kept.1) kept.0 w
-  given_up s.Read p result st kept ran w =
+  given_up s.Read p mid result st kept ran w =
       plain_answers layers words old new reading (report_text a.InputFailed) result (
         refl,
         record {
@@ -182,7 +196,7 @@ module _ (words : List (List ℕ)) (old new : Outside) (lag : ℕ) (o : Origins)
         },
       )
       (st, kept.1) kept.0 w
-  given_up s.Memory p result st kept ran w =
+  given_up s.Memory p mid result st kept ran w =
       memory_answers layers words old new asked_job led.asked result w.0 (st, ran, kept.1) kept.0 w.1
 
 module _ (words : List (List ℕ)) (old new : Outside) (job : Job) (asked : Asks words job) where

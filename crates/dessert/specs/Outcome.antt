@@ -1,6 +1,6 @@
 -- What comes of a job and bytes: the files are a module with one clocked block, the stimulus is run to its end, and the window of the
 -- first failure is written. This project's own.
-use Rattle.std.specs.Prelude.{◌≡◌, ℕ, zero, suc, ◌-◌, List, [], ◌∷◌, codes, length, map, Option, Some, None, is_some, ◌⊎◌}
+use Rattle.std.specs.Prelude.{◌≡◌, ℕ, List, [], codes, length, map, Option, Some, None, is_some, ◌⊎◌}
 use Rattle.talk.specs.declared.answer.Answer.TheVariants as a
 use Rattle.talk.specs.Words.{Job, Asks, IsFirstBad}
 use Rattle.talk.specs.Report.{report_text, failure_text, quiet_text}
@@ -15,7 +15,8 @@ use Rattle.vl_front.specs.Spelled.{Fault}
 use Rattle.vl_front.specs.FirstFault.{HasFirst}
 use Rattle.vl_front.specs.Top.{HasNoTop}
 use Rattle.vl_front.specs.OneModule.{IsDesign, IsNoDesign}
-use Rattle.vcd_text.specs.Vcd.{vcd_text}
+use Rattle.waveform.specs.Vcd.{vcd_text}
+use Rattle.window_run.specs.Window.{window_start, window_length, from_on}
 use Rattle.talk.specs.Words.{lag_of, top_of, files_of}
 use Rattle.dessert.specs.Inputs.{inputs_of}
 use Rattle.dessert.specs.Reported.{stop_of, fault_at, refusal_report}
@@ -44,22 +45,13 @@ AreRefused j files report =
 
 -- ---- the run
 
--- the cycle in which the window of a failure begins
-abbrev pub window_start : ℕ → ℕ → ℕ
-window_start lag c = c - lag
+-- the waveform of n cycles from `first` on
+abbrev pub wave_of : Module → List (List ℕ) → ℕ → ℕ → List ℕ
+wave_of m rows first n = vcd_text (scope_of m) first (from_on (shown_at m rows) first n)
 
--- f of the numbers from k on, n of them
-abbrev pub from_on : {X : Type 0} → (ℕ → X) → ℕ → ℕ → List X
-from_on f k zero = []
-from_on f k (suc n) = f k ∷ from_on f (suc k) n
-
--- the waveform of the cycles from `first` to c
-abbrev pub window_text : Module → List (List ℕ) → ℕ → ℕ → List ℕ
-window_text m rows first c = vcd_text (scope_of m) first (from_on (shown_at m rows) first (suc (c - first)))
-
--- the output of rows by the first failure in them, if there is one
+-- the output of rows by the first failure in them, if there is one: the waveform of its window
 abbrev pub output_of : ℕ → Module → List (List ℕ) → Option ℕ → List ℕ
-output_of lag m rows (Some c) = window_text m rows (window_start lag c) c
+output_of lag m rows (Some c) = wave_of m rows (window_start lag c) (window_length lag c)
 output_of lag m rows None = []
 
 -- the report of rows, in which each assertion stands in the top, whose path is its module's name, by the first failure in them, if there is one

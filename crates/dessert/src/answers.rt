@@ -1,33 +1,44 @@
 //! What is reported of files, a design, a stimulus and a run.
 
-ghost use Rattle.std.specs.Prelude.{◌≡◌, IfOk, map};
+ghost use Rattle.std.specs.Prelude.{◌≡◌, ◌<◌, IfOk, map, length};
+ghost use Rattle.netlist.specs.Fits.{IsWellFormed};
+ghost use Rattle.design_names.specs.Stops.{flat_stops};
 ghost use Rattle.talk.specs.declared.answer.Answer.TheVariants as a;
 ghost use Rattle.talk.specs.Report.{report_text, failure_text, fault_text};
 ghost use Rattle.stimulus.specs.Refusals.{name_of};
-ghost use Rattle.dessert.specs.Reported.{stop_of};
+ghost use Rattle.dessert.specs.Calls.Told.{told_of, AreStops};
 
-use crate::run::Failure;
 use crate::sources::{Origins, Spot};
+use design_names::names::Names;
+use design_names::path::path_text;
+use design_names::stops::Stop;
 use dt_core::fault::NoMemory;
 use dt_core::text::Text;
-use plain_sim::fired::Fired;
+use message_text::telling::Fired;
+use netlist::flat::Flat;
 use std::alloc::Global;
 use stimulus::refusal::Refusal;
 use talk::answer::{Answer, StopLine};
+use window_run::failure::Failure;
 
-// An assertion that fired in a scope of this path.
+// An assertion that fired, by the stop that has its number.
 fn stop_line(
     alloc: Global,
-    path: &[u8],
+    flat: &Flat,
+    stops: &[Stop],
     origins: &Origins<'_>,
     fired: &Fired,
 ) -> Result<StopLine, NoMemory>
-    ensures { IfOk result (λ stop. stop ≡ stop_of path.now origins.now fired.now) }
+    requires fits { IsWellFormed flat.now }
+    requires stops { stops.now ≡ flat_stops flat.now }
+    requires there { fired.now.stop < length stops.now }
+    ensures { IfOk result (λ line. line ≡ told_of flat.now origins.now fired.now) }
 {
-    let spot = origins.spot(fired.line);
+    let stop = stops[fired.stop as usize];
+    let spot = origins.spot(stop.place.line);
     Ok(StopLine {
-        path: Text::copied(alloc, path)?,
-        fatal: false,
+        path: path_text(alloc, flat, stop.scope)?,
+        fatal: stop.fatal,
         file: Text::copied(alloc, spot.file.as_bytes())?,
         line: spot.line,
         message: Text::copied(alloc, fired.message.bytes())?,
@@ -37,34 +48,41 @@ fn stop_line(
 // All assertions that fired.
 fn stop_lines(
     alloc: Global,
-    path: &[u8],
+    flat: &Flat,
+    stops: &[Stop],
     origins: &Origins<'_>,
     fired: &[Fired],
 ) -> Result<Vec<StopLine>, NoMemory>
-    ensures { IfOk result (λ stops. stops.items ≡ map (stop_of path.now origins.now) fired.now) }
+    requires fits { IsWellFormed flat.now }
+    requires stops { stops.now ≡ flat_stops flat.now }
+    requires there { AreStops flat.now fired.now }
+    ensures { IfOk result (λ lines. lines.items ≡ map (told_of flat.now origins.now) fired.now) }
 {
-    let mut stops = Vec::new(alloc);
+    let mut lines = Vec::new(alloc);
     for one in fired {
-        let stop = stop_line(alloc, path, origins, one)?;
-        if stops.push(stop).is_err() {
+        let line = stop_line(alloc, flat, stops, origins, one)?;
+        if lines.push(line).is_err() {
             return Err(NoMemory);
         }
     }
-    Ok(stops)
+    Ok(lines)
 }
 
-/// The first failure: its cycle, what fired in the scope of this path, and the window from the cycle `first` to it.
+/// The first failure of a design: its cycle, what fired, and the window from the cycle `first` to it.
 pub fn failure(
     alloc: Global,
-    path: &[u8],
+    flat: &Flat,
     origins: &Origins<'_>,
     failure: &Failure,
     first: u64,
 ) -> Result<Answer, NoMemory>
-    ensures { let stops = map (stop_of path.now origins.now) failure.now.fired in
+    requires fits { IsWellFormed flat.now }
+    requires there { AreStops flat.now failure.now.fired }
+    ensures { let stops = map (told_of flat.now origins.now) failure.now.fired in
         IfOk result (λ it. report_text it ≡ failure_text failure.now.cycle stops first) }
 {
-    let stops = stop_lines(alloc, path, origins, &failure.fired)?;
+    let names = Names::new(alloc, flat)?;
+    let stops = stop_lines(alloc, flat, names.stops(), origins, &failure.fired)?;
     Ok(Answer::Failure {
         cycle: failure.cycle,
         stops,

@@ -1,20 +1,21 @@
 //! Running a design over all rows of a source.
 
-ghost use Rattle.std.specs.Prelude.{◌≡◌, [], IsTrue, length};
-ghost use Rattle.flat_ir.specs.Names.{input_names};
+ghost use Rattle.std.specs.Prelude.{◌≡◌, [], IsTrue};
 ghost use Rattle.stimulus.specs.Reads.{Reads};
+ghost use Rattle.vl_stands.specs.StandsFor.{input_names};
+ghost use Rattle.window_run.specs.Ran.{RanTo};
 ghost use Rattle.dessert.specs.Inputs.{bits_named};
 ghost use Rattle.dessert.specs.Outside.{source_at};
-ghost use Rattle.dessert.specs.Calls.Ran.{RanTo};
+ghost use Rattle.dessert.specs.Calls.Told.{TakesBits};
 ghost use Rattle.dessert.specs.Calls.Rows.{RanAll, StepsEach};
 
-use crate::run::Run;
 use dt_io::outside::Source;
-use plain_sim::steps::Steps;
+use flat_sim::steps::Steps;
 use std::alloc::Global;
 use std::sync::ledger::Ledger;
 use stimulus::reader::StimReader;
 use stimulus::refusal::StimFault;
+use window_run::run::Run;
 
 /// Runs over every row of the source; after a failure the rows are read and checked alone. Out of memory is the reader's or the run's.
 pub fn run_rows<S: Source, L: Ledger>(
@@ -26,15 +27,15 @@ pub fn run_rows<S: Source, L: Ledger>(
 ) -> Result<(), StimFault>
     requires live { IsTrue reader.old.live }
     requires reads { Reads reader.old [] [] }
-    requires inputs { reader.old.inputs ≡ bits_named (input_names run.old.flat.signals) }
-    requires ran { RanTo run.old.flat [] run.old }
-    requires count { run.old.flat.inputs ≡ length (input_names run.old.flat.signals) }
+    requires inputs { reader.old.inputs ≡ bits_named (input_names run.old.flat) }
+    requires ran { RanTo run.old.flat [] [] run.old }
+    requires bits { TakesBits run.old.flat }
     ensures ran { let seen = source_at S.Source in
-        RanAll run.old.flat (bits_named (input_names run.old.flat.signals)) (seen source.old) (seen source.new) run.new
-        result }
+        RanAll run.old.flat (bits_named (input_names run.old.flat)) (seen source.old) (seen source.new)
+        steps.old steps.new run.new result }
     ensures steps { StepsEach (source_at S.Source source.old) (source_at S.Source source.new) steps.old steps.new }
     ensures flat { run.new.flat ≡ run.old.flat }
-    ensures period { run.new.window.period ≡ run.old.window.period }
+    ensures lag { run.new.lag ≡ run.old.lag }
 {
     'rows: loop {
         match reader.next_row(alloc, source) {

@@ -1,44 +1,48 @@
 //! The top call.
 
-ghost use Rattle.std.specs.Prelude.{◌≡◌, ◌≤◌, ◌<◌, ◌+◌, map, length, List, ℕ, IfOk, Some, Option};
+ghost use Rattle.std.specs.Prelude.{◌≡◌, ◌≤◌, ◌<◌, ◌+◌, [], map, length, List, ℕ, IfOk, IsSome, Some};
 ghost use Rattle.dt_core.specs.declared.limits.TheConstants.{MAX_FILES, MAX_LAG};
 ghost use Rattle.talk.specs.Plain.{named, plain};
 ghost use Rattle.talk.specs.Report.{failure_text, report_text};
 ghost use Rattle.talk.specs.Words.{Asks, sim};
-ghost use Rattle.flat_ir.specs.Names.{input_names};
+ghost use Rattle.netlist.specs.Fits.{IsWellFormed};
 ghost use Rattle.vl_front.specs.Reads.{Reads};
 ghost use Rattle.vl_front.specs.Top.{asked};
+ghost use Rattle.window_run.specs.Ran.{RanTo};
+ghost use Rattle.window_run.specs.Window.{window_start};
 ghost use Rattle.dessert.specs.Outside.{FilesAt, source_at, sink_at, streams_at, outside_at};
 ghost use Rattle.dessert.specs.Answer.{Answers};
+ghost use Rattle.dessert.specs.Answer as status;
 ghost use Rattle.dessert.specs.Outcome.{layers};
-ghost use Rattle.dessert.specs.Reported.{stop_of};
-ghost use Rattle.dessert.specs.Steps.{AreFew, AreFewFor, again, period};
+ghost use Rattle.dessert.specs.Steps.{AreFew};
 ghost use Rattle.dessert.specs.Headline.{IsAnswer, IsComplete};
 ghost use Rattle.dessert.specs.Calls.Led.{LedToText, LedToDesign};
-ghost use Rattle.dessert.specs.Calls.Ran.{RanTo};
-ghost use Rattle.dessert.specs.Calls.Written.{RunIsWritten, GivesUp};
+ghost use Rattle.dessert.specs.Calls.Told.{told_of, AreStops, TakesBits};
+ghost use Rattle.dessert.specs.Calls.Writing.{Delivered};
+ghost use Rattle.dessert.specs.Calls.Written.{RunIsWritten, GivesUp, cycles_by, out_by};
 ghost use Rattle.dessert.specs.Calls.Ended.{status_of};
 
 use crate::answers;
 use crate::ended::Ended;
 use crate::inputs::inputs_of;
-use crate::replay::write_window;
 use crate::rows::run_rows;
-use crate::run::{Failure, Run};
 use crate::sources::{Origins, Sources, SourcesFault, load_sources};
 use crate::write::{finish, finish_made};
+use design_names::laws::stops_law;
 use dt_core::fault::NoMemory;
 use dt_io::outside::{Files, Sink, Source};
-use flat_ir::flat::Flat;
-use plain_sim::steps::Steps;
+use flat_sim::steps::Steps;
+use netlist::flat::Flat;
 use std::alloc::Global;
 use std::sync::ledger::Ledger;
 use stimulus::reader::StimReader;
 use stimulus::refusal::StimFault;
 use talk::answer::Answer;
 use talk::words::read_words;
-use vcd_text::fault::VcdFault;
 use vl_front::{DesignFault, read_design};
+use waveform::fault::VcdFault;
+use window_run::failure::Failure;
+use window_run::run::Run;
 
 /// Loads the files, reads their design, runs it over all rows of the stimulus, and writes what comes of it: the waveform
 /// of the window of a failure to `out`, and then the report. Each cycle that is settled counts one step.
@@ -76,8 +80,9 @@ fn answer<F: Files, S: Source, V: Sink, T: Sink, L: Ledger>(
     ensures answers { let seen = outside_at F.Files S.Source V.Sink T.Sink in
         Answers layers (named words.now) (seen files.old stimulus.old out.old report.old steps.old)
         (seen files.new stimulus.new out.new report.new steps.new) (status_of result) }
-    ensures steps { let seen = source_at S.Source in
-        AreFewFor (named words.now) (seen stimulus.old) (seen stimulus.new) steps.old steps.new (status_of result) }
+    ensures steps { let seen = outside_at F.Files S.Source V.Sink T.Sink in
+        AreFew (named words.now) (seen files.old stimulus.old out.old report.old steps.old)
+        (seen files.new stimulus.new out.new report.new steps.new) }
 {
     match read_words(words) {
         Ok(job) => run_files(
@@ -116,8 +121,10 @@ fn run_files<F: Files, S: Source, V: Sink, T: Sink, L: Ledger>(
         (words : List (List ℕ)) → Asks words (sim lag (plain top.entry) (named names.now))
         → Answers layers words (seen files.old stimulus.old out.old report.old steps.old)
         (seen files.new stimulus.new out.new report.new steps.new) (status_of result) }
-    ensures steps { let seen = source_at S.Source in
-        AreFew lag (seen stimulus.old) (seen stimulus.new) steps.old steps.new (status_of result) }
+    ensures steps { let seen = outside_at F.Files S.Source V.Sink T.Sink in
+        (words : List (List ℕ)) → Asks words (sim lag (plain top.entry) (named names.now))
+        → AreFew words (seen files.old stimulus.old out.old report.old steps.old)
+        (seen files.new stimulus.new out.new report.new steps.new) }
 {
     match load_sources(alloc, names, files) {
         Ok(sources) => run_sources(alloc, lag, top, sources, stimulus, out, report, steps),
@@ -149,8 +156,11 @@ fn run_sources<S: Source, V: Sink, T: Sink, L: Ledger>(
         → LedToText words files lag (plain top.entry) sources.entry.origins sources.entry.text.items
         → Answers layers words (seen files stimulus.old out.old report.old steps.old)
         (seen files stimulus.new out.new report.new steps.new) (status_of result) }
-    ensures steps { let seen = source_at S.Source in
-        AreFew lag (seen stimulus.old) (seen stimulus.new) steps.old steps.new (status_of result) }
+    ensures steps { let seen = streams_at S.Source V.Sink T.Sink in
+        (words : List (List ℕ)) (files : FilesAt)
+        → LedToText words files lag (plain top.entry) sources.entry.origins sources.entry.text.items
+        → AreFew words (seen files stimulus.old out.old report.old steps.old)
+        (seen files stimulus.new out.new report.new steps.new) }
 {
     let Sources { text, origins } = sources;
     match read_text(alloc, text, top) {
@@ -189,26 +199,30 @@ fn run_design<S: Source, V: Sink, T: Sink, L: Ledger>(
     report: &mut T,
     steps: &mut Steps<L>,
 ) -> Ended
-    requires inputs { flat.now.inputs ≡ length (input_names flat.now.signals) }
+    requires bits { TakesBits flat.now }
+    requires undriven { flat.now.driven ≡ [] }
     requires lag { lag ≤ MAX_LAG }
     ensures answers { let seen = streams_at S.Source V.Sink T.Sink in
         (words : List (List ℕ)) (files : FilesAt) → LedToDesign words files lag origins.now flat.now
         → Answers layers words (seen files stimulus.old out.old report.old steps.old)
         (seen files stimulus.new out.new report.new steps.new) (status_of result) }
-    ensures steps { let seen = source_at S.Source in
-        AreFew lag (seen stimulus.old) (seen stimulus.new) steps.old steps.new (status_of result) }
+    ensures steps { let seen = streams_at S.Source V.Sink T.Sink in
+        (words : List (List ℕ)) (files : FilesAt) → LedToDesign words files lag origins.now flat.now
+        → AreFew words (seen files stimulus.old out.old report.old steps.old)
+        (seen files stimulus.new out.new report.new steps.new) }
 {
-    let Ok(inputs) = inputs_of(alloc, flat.signals()) else {
+    stops_law();
+    let Ok(inputs) = inputs_of(alloc, flat) else {
         return Ended::Memory;
     };
     let Ok(mut reader) = StimReader::new(alloc, inputs) else {
         return Ended::Memory;
     };
-    let Ok(mut run) = Run::start(alloc, flat, lag) else {
+    let Ok(mut run) = Run::start(alloc, flat, &[], lag) else {
         return Ended::Memory;
     };
     match run_rows(alloc, &mut reader, &mut run, stimulus, steps) {
-        Ok(()) => settle(alloc, lag, origins, &run, out, report, steps),
+        Ok(()) => settle(alloc, lag, origins, &mut run, out, report, steps),
         Err(fault) => give_up(alloc, fault, report),
     }
 }
@@ -231,68 +245,69 @@ fn settle<V: Sink, T: Sink, L: Ledger>(
     alloc: Global,
     lag: u32,
     origins: &Origins<'_>,
-    run: &Run<'_>,
+    run: &mut Run<'_>,
     out: &mut V,
     report: &mut T,
     steps: &mut Steps<L>,
 ) -> Ended
-    requires ran { (rows : List (List ℕ)) × RanTo run.now.flat rows run.now }
-    requires period { run.now.window.period ≡ period lag }
-    ensures written { (rows : List (List ℕ)) → RanTo run.now.flat rows run.now
-        → RunIsWritten lag origins.now run.now.flat rows run.now (status_of result)
+    requires ran { (rows : List (List ℕ)) × RanTo run.old.flat [] rows run.old }
+    requires lag { run.old.lag ≡ lag }
+    ensures written { (rows : List (List ℕ)) → RanTo run.old.flat [] rows run.old
+        → RunIsWritten lag origins.now run.old.flat rows run.old (status_of result)
         (sink_at V.Sink out.old) (sink_at V.Sink out.new) (sink_at T.Sink report.old) (sink_at T.Sink report.new) }
-    ensures steps { steps.new ≤ steps.old + again lag (status_of result) }
+    ensures steps { steps.new ≤ steps.old + cycles_by lag run.old.failure }
 {
+    stops_law();
     match run.failure() {
-        Some(failure) => fail(alloc, lag, origins, run, failure, out, report, steps),
+        Some(failure) => {
+            let answer = failure_report(alloc, lag, origins, run.flat(), failure);
+            fail(alloc, run, answer, out, report, steps)
+        }
         None => {
-            let cycles = u64::from(run.cycles());
+            let cycles = run.cycles();
             finish(report, &Answer::NoFailure { cycles }, Ended::Quiet)
         }
     }
 }
 
-// Writes the waveform of the window of a failure, and the report.
+// Writes the waveform of the window of a failure, and the report, if there was memory for it.
 fn fail<V: Sink, T: Sink, L: Ledger>(
     alloc: Global,
-    lag: u32,
-    origins: &Origins<'_>,
-    run: &Run<'_>,
-    failure: &Failure,
+    run: &mut Run<'_>,
+    answer: Result<Answer, NoMemory>,
     out: &mut V,
     report: &mut T,
     steps: &mut Steps<L>,
 ) -> Ended
-    requires ran { (rows : List (List ℕ)) × RanTo run.now.flat rows run.now }
-    requires failed { run.now.failure ≡ Some failure.now }
-    requires period { run.now.window.period ≡ period lag }
-    ensures written { (rows : List (List ℕ)) → RanTo run.now.flat rows run.now
-        → RunIsWritten lag origins.now run.now.flat rows run.now (status_of result)
+    requires ran { (rows : List (List ℕ)) × RanTo run.old.flat [] rows run.old }
+    requires failed { IsSome run.old.failure }
+    ensures written { (rows : List (List ℕ)) (text : List ℕ) → RanTo run.old.flat [] rows run.old
+        → IfOk answer (λ it. report_text it ≡ text)
+        → Delivered (out_by run.old.lag run.old.flat rows run.old.failure) text status.failure (status_of result)
         (sink_at V.Sink out.old) (sink_at V.Sink out.new) (sink_at T.Sink report.old) (sink_at T.Sink report.new) }
-    ensures steps { steps.new ≤ steps.old + again lag (status_of result) }
+    ensures steps { steps.new ≤ steps.old + cycles_by run.old.lag run.old.failure }
 {
-    let first = failure.cycle.saturating_sub(u64::from(lag));
-    match write_window(alloc, run.flat(), run.window(), first, out, steps) {
-        Ok(()) => finish_made(
-            report,
-            failure_report(alloc, origins, run.flat(), failure, first),
-            Ended::Failure,
-        ),
+    match run.write_window(alloc, out, steps) {
+        Ok(()) => finish_made(report, answer, Ended::Failure),
         Err(VcdFault::Write) => finish(report, &Answer::OutputFailed, Ended::Writing),
         Err(VcdFault::Memory) => Ended::Memory,
     }
 }
 
-// The report of a failure whose window begins in the cycle `first`.
+// The report of a failure, whose window has this lag.
 fn failure_report(
     alloc: Global,
+    lag: u32,
     origins: &Origins<'_>,
     flat: &Flat,
     failure: &Failure,
-    first: u64,
 ) -> Result<Answer, NoMemory>
-    ensures { let stops = map (stop_of flat.now.name origins.now) failure.now.fired in
+    requires fits { IsWellFormed flat.now }
+    requires there { AreStops flat.now failure.now.fired }
+    ensures { let stops = map (told_of flat.now origins.now) failure.now.fired in
+        let first = window_start lag failure.now.cycle in
         IfOk result (λ it. report_text it ≡ failure_text failure.now.cycle stops first) }
 {
-    answers::failure(alloc, flat.name(), origins, failure, first)
+    let first = failure.cycle.saturating_sub(u64::from(lag));
+    answers::failure(alloc, flat, origins, failure, first)
 }

@@ -1,6 +1,6 @@
 //! The program: the words, the real files and streams, and the status that it ends with.
 //!
-//! Below: `dessert` (the top call), `dt_io` (std's streams and files, as the traits see them), `plain_sim` (the count of steps).
+//! Below: `dessert` (the top call), `dt_io` (std's streams and files, as the traits see them), `flat_sim` (the count of steps).
 #![tactic(auto)]
 
 mod help;
@@ -10,8 +10,8 @@ ghost use Rattle.std.specs.Prelude.{◌≡◌, ◌<◌};
 use dessert::quiet_main;
 use dt_io::outside::{Sink, write_all};
 use dt_io::real::{DiskFiles, StdSink, StdSource};
+use flat_sim::steps::Steps;
 use help::{HELP, VERSION};
-use plain_sim::steps::Steps;
 use std::alloc::{AllocError, Global};
 use std::marker::Brand;
 use std::process::ExitCode;

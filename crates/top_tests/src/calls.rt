@@ -7,7 +7,7 @@ mod texts;
 use dessert::quiet_main;
 use dt_core::text::Text;
 use dt_io::memory::{MemFiles, MemSink, MemSource};
-use plain_sim::steps::Steps;
+use flat_sim::steps::Steps;
 use std::alloc::Global;
 use std::marker::Brand;
 use std::sync::ledger::{Blank, Ledger};

@@ -1,9 +1,9 @@
 -- What led to a call inside the top call: from there on the answer is the whole call's. This project's own.
 use Rattle.std.specs.Prelude.{◌≡◌, ℕ, List, map, Option}
 use Rattle.talk.specs.Words.{Asks, sim}
-use Rattle.flat_ir.specs.FlatRun.{Flat}
+use Rattle.netlist.specs.Design.{Flat}
 use Rattle.vl_tree.specs.Tree.{Module}
-use Rattle.vl_meaning.specs.StandsFor.{StandsFor}
+use Rattle.vl_stands.specs.StandsFor.{StandsFor}
 use Rattle.vl_front.specs.OneModule.{IsDesign}
 use Rattle.dessert.specs.Outside.{FilesAt}
 use Rattle.dessert.specs.Answer.{Loaded}

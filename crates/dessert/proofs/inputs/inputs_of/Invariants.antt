@@ -1,9 +1,10 @@
-use Rattle.std.proofs.Common.{◌≡◌, ◌++◌, drop}
-use Rattle.flat_ir.specs.Names.{input_names}
+use Rattle.std.proofs.Common.{◌≡◌, ◌++◌, drop, map}
+use Rattle.design_names.specs.Shown.{signal_at}
+use Rattle.vl_stands.specs.StandsFor.{input_names}
 use Rattle.dessert.specs.Inputs.{bits_named}
 use Rattle.dessert.proofs.inputs.inputs_of.Given as goal
 
 -- the inputs so far, and those that are left
-abbrev pub invariant-loop-signal : goal.invariant-loop-signal
-invariant-loop-signal l =
-    l.inputs.items ++ bits_named (input_names (drop l.signal-index l.signals)) ≡ bits_named (input_names l.signals)
+abbrev pub invariant-loop-number : goal.invariant-loop-number
+invariant-loop-number l =
+    l.inputs.items ++ bits_named (map (λ k. (signal_at l.flat k).name) (drop l.number-index l.flat.inputs)) ≡ bits_named (input_names l.flat)

@@ -1,5 +1,5 @@
 use Rattle.std.proofs.Common.{refl, sym, subst, arith}
-use Rattle.std.proofs.KnownBytes.{Keeps-refl}
+use Rattle.std.proofs.KnownBytes.{Keeps-refl, Consumes-nil}
 use Rattle.talk.specs.Plain.{named, plain}
 use Rattle.talk.specs.Named.{job_seen, number_in}
 use Rattle.talk.specs.Words.{sim, Asks, IsFirstBad}
@@ -12,7 +12,7 @@ use Rattle.dessert.specs.Outcome.{layers}
 use Rattle.dessert.specs.Calls.Ended.{status_of}
 use Rattle.dessert.proofs.Cases.{plain_answers}
 use Rattle.dessert.proofs.LoadLaws.{named_length}
-use Rattle.dessert.proofs.StepsLaws.{few_for, none_for}
+use Rattle.dessert.proofs.StepsLaws.{unread}
 use Rattle.dessert.proofs.TopLaws.{parts_are}
 use Rattle.dessert.proofs.top.answer.Goals as goal
 
@@ -36,7 +36,7 @@ returns-in-Ok-clause-answers g c =
 pub returns-in-Ok-clause-steps : goal.returns-in-Ok-clause-steps
 returns-in-Ok-clause-steps g c =
     let e = parts_are (job_seen c.in-Ok.job) c.lag.result (plain c.top.result) (named c.files.result.now) c.lag.ensures c.top.ensures c.files.ensures in
-    few_for (named c.args.words.now) (sim c.lag.result (plain c.top.result) (named c.files.result.now)) _ _ _ _ _ (subst (Asks (named c.args.words.now)) e c.in-Ok.ensures) c.run_files.ensures.steps
+    c.run_files.ensures.steps (named c.args.words.now) (subst (Asks (named c.args.words.now)) e c.in-Ok.ensures)
 
 pub returns-in-Err-clause-answers : goal.returns-in-Err-clause-answers
 returns-in-Err-clause-answers g c =
@@ -46,4 +46,4 @@ returns-in-Err-clause-answers g c =
     (refl, record { bad_word = c.number-number.result; is_first_bad = subst (IsFirstBad (named c.args.words.now)) (sym c.number-number.ensures) c.in-Err.ensures; report_is = refl; untaken = Keeps-refl _ }) (refl, refl, refl) (Keeps-refl _) c.finish.ensures
 
 pub returns-in-Err-clause-steps : goal.returns-in-Err-clause-steps
-returns-in-Err-clause-steps g c = none_for (named c.args.words.now) (number_in c.in-Err.usage) _ _ _ c.in-Err.ensures
+returns-in-Err-clause-steps g c = unread _ _ _ (Consumes-nil _) (omega arith)

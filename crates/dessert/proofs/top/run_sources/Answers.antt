@@ -1,6 +1,6 @@
-use Rattle.std.proofs.Common.{◌≡◌, List, ℕ, length, refl, sym, ap, subst, ◌∙◌}
+use Rattle.std.proofs.Common.{◌≡◌, List, ℕ, arith, refl, sym, ap, subst, ◌∙◌}
 use Rattle.std.specs.Prelude.{IfOk, Err, codes}
-use Rattle.std.proofs.KnownBytes.{Keeps-refl}
+use Rattle.std.proofs.KnownBytes.{Keeps-refl, Consumes-nil}
 use Rattle.talk.specs.Plain.{plain}
 use Rattle.talk.specs.Report.{report_text, fault_text}
 use Rattle.vl_tree.specs.Fault.{name_of}
@@ -9,12 +9,16 @@ use Rattle.vl_front.specs.declared.fault.DesignFault.TheVariants as f
 use Rattle.vl_front.specs.OneModule.{IsDesign}
 use Rattle.dessert.specs.Outside.{streams_at}
 use Rattle.dessert.specs.Calls.Ended.{status_of}
+use Rattle.dessert.proofs.SettledLaw.{takes_bits}
 use Rattle.dessert.proofs.StepsLaws.{unread}
 use Rattle.dessert.proofs.TopLaws.{asked_is, no_design, faulty, topless, fault_is}
 use Rattle.dessert.proofs.top.run_sources.Goals as goal
 
-pub run_design-requires-clause-inputs : goal.run_design-requires-clause-inputs
-run_design-requires-clause-inputs g c = let s = c.in-Ok.ensures.2 in s.input_count ∙ ap (λ (x : List (List ℕ)). length x) (sym s.inputs)
+pub run_design-requires-clause-bits : goal.run_design-requires-clause-bits
+run_design-requires-clause-bits g c = takes_bits _ _ c.in-Ok.ensures.2 c.in-Ok.ensures.1.here.sound
+
+pub run_design-requires-clause-undriven : goal.run_design-requires-clause-undriven
+run_design-requires-clause-undriven g c = c.in-Ok.ensures.2.undriven
 
 pub returns-in-Ok-clause-answers : goal.returns-in-Ok-clause-answers
 returns-in-Ok-clause-answers g c = λ words files led.
@@ -22,6 +26,22 @@ returns-in-Ok-clause-answers g c = λ words files led.
     let l = led.is_loaded in
     let d = subst (λ x. IsDesign c.args.sources.text.items x r.0) (asked_is c.args.top) r.1 in
     c.run_design.ensures.answers words files (record {
+      top = plain c.args.top;
+      the_module = r.0;
+      files = l.files;
+      asked = led.asked;
+      loaded = l.loaded;
+      counts = l.counts_are;
+      is_design = subst (λ (x : List ℕ). IsDesign x (plain c.args.top) r.0) l.text_is d;
+      stands = r.2;
+    })
+
+pub returns-in-Ok-clause-steps : goal.returns-in-Ok-clause-steps
+returns-in-Ok-clause-steps g c = λ words files led.
+    let r = c.in-Ok.ensures in
+    let l = led.is_loaded in
+    let d = subst (λ x. IsDesign c.args.sources.text.items x r.0) (asked_is c.args.top) r.1 in
+    c.run_design.ensures.steps words files (record {
       top = plain c.args.top;
       the_module = r.0;
       files = l.files;
@@ -44,7 +64,7 @@ returns-in-Err-At-clause-answers g c = λ words files led.
     c.design_fault.ensures))
 
 pub returns-in-Err-At-clause-steps : goal.returns-in-Err-At-clause-steps
-returns-in-Err-At-clause-steps g c = unread _ _ _ _
+returns-in-Err-At-clause-steps g c = λ words files led. unread _ _ _ (Consumes-nil _) (omega arith)
 
 pub returns-in-Err-NoTop-clause-answers : goal.returns-in-Err-NoTop-clause-answers
 returns-in-Err-NoTop-clause-answers g c = λ words files led.
@@ -58,7 +78,7 @@ returns-in-Err-NoTop-clause-answers g c = λ words files led.
     c.design_fault-in-Err-NoTop.ensures))
 
 pub returns-in-Err-NoTop-clause-steps : goal.returns-in-Err-NoTop-clause-steps
-returns-in-Err-NoTop-clause-steps g c = unread _ _ _ _
+returns-in-Err-NoTop-clause-steps g c = λ words files led. unread _ _ _ (Consumes-nil _) (omega arith)
 
 pub returns-in-Err-NotYetBuilt-clause-answers : goal.returns-in-Err-NotYetBuilt-clause-answers
 returns-in-Err-NotYetBuilt-clause-answers g c = λ words files led.
@@ -68,4 +88,7 @@ returns-in-Err-NotYetBuilt-clause-answers g c = λ words files led.
     c.args.sources.text.items (status_of c.finish.result) led (refl, refl, refl) (Keeps-refl _) (Keeps-refl _) h c.finish.ensures
 
 pub returns-in-Err-NotYetBuilt-clause-steps : goal.returns-in-Err-NotYetBuilt-clause-steps
-returns-in-Err-NotYetBuilt-clause-steps g c = unread _ _ _ _
+returns-in-Err-NotYetBuilt-clause-steps g c = λ words files led. unread _ _ _ (Consumes-nil _) (omega arith)
+
+pub returns-clause-steps : goal.returns-clause-steps
+returns-clause-steps g c = λ words files led. unread _ _ _ (Consumes-nil _) (omega arith)

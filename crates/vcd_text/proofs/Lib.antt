@@ -1,6 +1,0 @@
-pub mod ReaderLaws
-pub mod CodeLaws
-pub mod Pushes
-pub mod Cycles
-mod VcdExamples
-pub mod TextLaws

@@ -1,4 +1,0 @@
-use Rattle.vcd_text.proofs.lines.+push_code.Given as goal
-
-abbrev pub decreases-push_code : goal.decreases-push_code
-decreases-push_code l = l.number

@@ -1,5 +1,0 @@
-pub mod Vcd
-pub mod Reader
-pub mod Writer
-pub mod Writes
-pub mod Cycle
