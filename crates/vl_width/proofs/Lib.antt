@@ -1,0 +1,7 @@
+mod Early
+mod Numbers
+mod Settled
+mod Tables
+mod TermViews
+mod Views
+mod Walks
