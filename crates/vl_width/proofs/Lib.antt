@@ -1,7 +1,7 @@
 mod Early
-mod Numbers
+pub mod Numbers
 mod Settled
 mod Tables
 mod TermViews
-mod Views
+pub mod Views
 mod Walks

@@ -57,14 +57,14 @@ extended_low s v w n h = residue_low MAX_WIDTH w (integer s v n) h
 
 -- ---- signs
 
-below_zero : (a b : ℕ) → a < b → pos a -ℤ pos b ≡ negsuc (b - (a + 1))
+pub below_zero : (a b : ℕ) → a < b → pos a -ℤ pos b ≡ negsuc (b - (a + 1))
 below_zero a zero h = absurd (omega arith)
 below_zero a (suc b) h =
     let less : suc a ≤ suc b = omega arith in
     let same : suc b - suc a ≡ suc b - (a + 1) = omega arith in
     rw (le-leb (suc a) (suc b) less) (ap negsuc same)
 
-twice_half : (w : ℕ) → 1 ≤ w → 2 * 2 ^ (w - 1) ≡ 2 ^ w
+pub twice_half : (w : ℕ) → 1 ≤ w → 2 * 2 ^ (w - 1) ≡ 2 ^ w
 twice_half w one =
     let whole : suc (w - 1) ≡ w = omega arith in
     let twice : 2 ^ suc (w - 1) ≡ 2 ^ (w - 1) * 2 = pow-suc 2 (w - 1) in

@@ -210,8 +210,8 @@ fn is_high(a: Bits) -> bool
     a.value() >= 1 << (a.width() - 1)
 }
 
-// So many copies side by side.
-fn repeated(count: u32, one: Bits) -> Bits
+/// So many copies side by side.
+pub fn repeated(count: u32, one: Bits) -> Bits
     requires { (1 ≤ count) × (count * one.width ≤ MAX_WIDTH) }
     ensures width { result.width ≡ count * one.width }
     ensures value { result.value ≡ meaning.repeated count one.width one.value }
@@ -250,8 +250,8 @@ fn compared(operator: Binary, left: &Known, right: &Known) -> Bits
     )
 }
 
-// The least k with 2^k at least the number; 0 for 0.
-fn logarithm(a: Bits) -> u32
+/// The least k with 2^k at least the number; 0 for 0.
+pub fn logarithm(a: Bits) -> u32
     ensures value { result ≡ meaning.logarithm a.width a.value }
     ensures within { result ≤ a.width }
 {

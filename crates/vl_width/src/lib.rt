@@ -10,12 +10,12 @@
 #![tactic(auto)]
 
 pub mod constants;
-mod known;
+pub mod known;
 pub mod names;
 pub mod number;
 pub mod operands;
 pub mod place;
 pub mod shape;
 pub mod size;
-mod term;
+pub mod term;
 mod walk;

@@ -1,9 +1,9 @@
 //! Names in sight, and what they stand for.
 
-ghost use Rattle.std.specs.Prelude.{◌≡◌, ◌<◌, Some, length, slice_get};
+ghost use Rattle.std.specs.Prelude.{◌≡◌, ◌<◌, Some, IfSome, length, slice_get};
 ghost use Rattle.std.specs.Option.{option_map};
 ghost use Rattle.vl_value.specs.Constant.{Sight};
-ghost use Rattle.vl_width.specs.Objects.{Numbering, thing, plain_shape};
+ghost use Rattle.vl_width.specs.Objects.{Numbering, thing, plain_shape, HasInputs};
 
 use crate::number::Constant;
 use crate::shape::Shape;
@@ -31,11 +31,13 @@ pub enum Object {
         number: u32,
         shape: Shape,
     },
-    /// A function; `inside` where the name stands in its own body.
+    /// A function, with the shape of its result and the number of its inputs; `inside` where the name stands in its own
+    /// body.
     Function {
         number: u32,
         shape: Shape,
         inside: bool,
+        inputs: u32,
     },
 }
 
@@ -48,7 +50,8 @@ pub trait Names {
 
     /// What a name stands for; none where nothing in sight declares it.
     fn find(&self, name: &Text) -> Option<Object>
-        ensures { option_map (thing (numbering self.now)) result ≡ sight self.now name.now };
+        ensures thing { option_map (thing (numbering self.now)) result ≡ sight self.now name.now }
+        ensures inputs { IfSome result (HasInputs (numbering self.now)) };
 
     /// The shape of input `k`, from 0, of the function of a number.
     fn input(&self, function: u32, k: u32) -> Shape

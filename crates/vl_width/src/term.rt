@@ -93,8 +93,8 @@ fn after(first: Bits, steps: &[Step<Term>], size: Size) -> Bits
     value
 }
 
-// A number at another size.
-fn sized(number: Constant, size: Size) -> Bits
+/// A number at another size.
+pub fn sized(number: Constant, size: Size) -> Bits
     ensures width { result.width ≡ size.width }
     ensures value { result.value ≡ number_at number size.width size.signed }
 {
@@ -102,16 +102,16 @@ fn sized(number: Constant, size: Size) -> Bits
     cut_to(extend(number.bits, MAX_WIDTH, signed), size.width)
 }
 
-// What an operator makes of a value of its width.
-fn applied_to(operator: Unary, a: Bits) -> Bits
+/// What an operator makes of a value of its width, at that width.
+pub fn applied_to(operator: Unary, a: Bits) -> Bits
     ensures width { result.width ≡ a.width }
     ensures value { result.value ≡ applied.unary operator a.width a.value }
 {
     Bits::of(a.width(), unary(operator, a).value())
 }
 
-// What an operator makes of two values of its width.
-fn alike(operator: Binary, a: Bits, b: Bits, signed: bool) -> Bits
+/// What an operator makes of two values of its width, at that width.
+pub fn alike(operator: Binary, a: Bits, b: Bits, signed: bool) -> Bits
     requires { a.width ≡ b.width }
     ensures width { result.width ≡ a.width }
     ensures value { result.value ≡ applied.binary operator signed a.width a.value b.value }
