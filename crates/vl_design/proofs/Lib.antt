@@ -1,0 +1,4 @@
+mod Build
+mod HierarchyExamples
+mod NameExamples
+mod ObjectExamples

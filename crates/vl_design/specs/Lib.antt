@@ -1,0 +1,13 @@
+pub mod Limits
+pub mod Constants
+pub mod Spans
+pub mod Parameters
+pub mod Declarations
+pub mod Generate
+pub mod Scopes
+pub mod Walk
+pub mod Objects
+pub mod LoopVariables
+pub mod Clocks
+pub mod ObjectFaults
+pub mod Design
