@@ -76,6 +76,9 @@ few = record {
   input_bits = 12;
 }
 
+abbrev pub deep_few : Limits
+deep_few = record few { depth = 3 }
+
 -- the least fault of a source, whose top is the one root, or is asked for
 abbrev pub fault_in : Limits → Source → Option (ℕ × (Option ℕ × FaultKind))
 fault_in q src = spot (first_fault q src None)

@@ -6,7 +6,7 @@ use Rattle.vl_tree.specs.declared.fault.FaultKind.TheVariants as k
 use Rattle.vl_tree.specs.Syntax as t
 use Rattle.vl_tree.specs.Syntax.{Source}
 use Rattle.vl_design.specs.Limits.{limits}
-use Rattle.vl_design.proofs.Build.{p, x, lit, rg, dr, vl, lo, nb, nt, dv, fn, ins, md, few, fault_in, fault_asked}
+use Rattle.vl_design.proofs.Build.{p, x, lit, rg, dr, vl, lo, nb, nt, dv, fn, ins, md, few, deep_few, fault_in, fault_asked}
 
 -- ---- the top
 
@@ -77,6 +77,24 @@ asked_in_vain_text =
 
 asked_in_vain : fault_asked (codes "b") asked_in_vain_text ≡ Some (4, (Some 0, k.NoTop))
 asked_in_vain = refl
+
+-- module a;
+--   b x();
+-- endmodule
+-- module b;
+-- endmodule
+-- module b;
+--   a x();
+-- endmodule
+abbrev a_second_module_counts_for_nothing_text : Source
+a_second_module_counts_for_nothing_text =
+    ((md (p 0 1) (x (codes "a") 1 1) ([]) None (t.more_item (t.instances (x (codes "b") 3 2) None ((ins (x (codes
+    "x") 4 2) None) ∷ [])) t.no_item)) ∷ (md (p 9 4) (x (codes "b") 10 4) ([]) None t.no_item) ∷ (md (p 13 6) (x
+    (codes "b") 14 6) ([]) None (t.more_item (t.instances (x (codes "a") 16 7) None ((ins (x (codes "x") 17 7) None)
+    ∷ [])) t.no_item)) ∷ [])
+
+a_second_module_counts_for_nothing : fault_in limits a_second_module_counts_for_nothing_text ≡ Some (4, (Some 14, k.DuplicateModule))
+a_second_module_counts_for_nothing = refl
 
 -- module a;
 -- endmodule
@@ -317,6 +335,37 @@ nothing_behind_too_many : fault_in few nothing_behind_too_many_text ≡ Some (4,
 nothing_behind_too_many = refl
 
 -- module m;
+--   q a(), b(), c();
+-- endmodule
+abbrev unknown_ones_count_text : Source
+unknown_ones_count_text =
+    ((md (p 0 1) (x (codes "m") 1 1) ([]) None (t.more_item (t.instances (x (codes "q") 3 2) None ((ins (x (codes
+    "a") 4 2) None) ∷ (ins (x (codes "b") 8 2) None) ∷ (ins (x (codes "c") 12 2) None) ∷ [])) t.no_item)) ∷ [])
+
+unknown_ones_count : fault_in few unknown_ones_count_text ≡ Some (4, (Some 3, k.UnknownModule))
+unknown_ones_count = refl
+
+-- module a;
+-- endmodule
+-- module c;
+--   a x(), y();
+-- endmodule
+-- module m;
+--   q z();
+--   c w();
+-- endmodule
+abbrev unknown_ones_are_too_many_text : Source
+unknown_ones_are_too_many_text =
+    ((md (p 0 1) (x (codes "a") 1 1) ([]) None t.no_item) ∷ (md (p 4 3) (x (codes "c") 5 3) ([]) None (t.more_item
+    (t.instances (x (codes "a") 7 4) None ((ins (x (codes "x") 8 4) None) ∷ (ins (x (codes "y") 12 4) None) ∷ []))
+    t.no_item)) ∷ (md (p 17 6) (x (codes "m") 18 6) ([]) None (t.more_item (t.instances (x (codes "q") 20 7) None
+    ((ins (x (codes "z") 21 7) None) ∷ [])) (t.more_item (t.instances (x (codes "c") 25 8) None ((ins (x (codes "w")
+    26 8) None) ∷ [])) t.no_item))) ∷ [])
+
+unknown_ones_are_too_many : fault_in deep_few unknown_ones_are_too_many_text ≡ Some (4, (Some 8, k.TooManyInstances))
+unknown_ones_are_too_many = refl
+
+-- module m;
 --   genvar i;
 --   for (i = 0; i < 3; i = i + 1) begin end
 -- endmodule
@@ -520,6 +569,48 @@ genvar_again_text =
 
 genvar_again : fault_in limits genvar_again_text ≡ None
 genvar_again = refl
+
+-- module m;
+--   genvar i;
+--   if (1) begin
+--     for (i = 0; i < 2; i = i + 1) begin end
+--     localparam i = 3;
+--   end
+-- endmodule
+abbrev genvar_before_a_parameter_text : Source
+genvar_before_a_parameter_text =
+    ((md (p 0 1) (x (codes "m") 1 1) ([]) None (t.more_item (t.genvar (p 3 2) ((x (codes "i") 4 2) ∷ []))
+    (t.more_item (t.generate_if (t.more_generate_branch (p 6 3) (t.number (p 8 3) (lit 32 false true 1 0)) (t.several
+    (p 10 3) None (t.more_item (t.generate_loop (p 11 4) (lo (x (codes "i") 13 4) (t.number (p 15 4) (lit 32 false
+    true 0 0)) (t.chain (t.read (x (codes "i") 17 4) t.no_select) (t.more_link b.Lt (p 18 4) (t.number (p 19 4) (lit
+    32 false true 2 0)) t.no_link)) (x (codes "i") 21 4) (t.chain (t.read (x (codes "i") 23 4) t.no_select)
+    (t.more_link b.Add (p 24 4) (t.number (p 25 4) (lit 32 false true 1 0)) t.no_link))) (t.several (p 27 4) None
+    t.no_item)) (t.more_item (t.parameter (p 29 5) true false None ((vl (x (codes "i") 30 5) (t.number (p 32 5) (lit
+    32 false true 3 0))) ∷ [])) t.no_item))) t.no_generate_branch) t.no_generate_else) t.no_item))) ∷ [])
+
+genvar_before_a_parameter : fault_in limits genvar_before_a_parameter_text ≡ None
+genvar_before_a_parameter = refl
+
+-- module m;
+--   genvar i;
+--   if (1) begin
+--     localparam i = 3;
+--     for (i = 0; i < 2; i = i + 1) begin end
+--   end
+-- endmodule
+abbrev genvar_behind_a_parameter_text : Source
+genvar_behind_a_parameter_text =
+    ((md (p 0 1) (x (codes "m") 1 1) ([]) None (t.more_item (t.genvar (p 3 2) ((x (codes "i") 4 2) ∷ []))
+    (t.more_item (t.generate_if (t.more_generate_branch (p 6 3) (t.number (p 8 3) (lit 32 false true 1 0)) (t.several
+    (p 10 3) None (t.more_item (t.parameter (p 11 4) true false None ((vl (x (codes "i") 12 4) (t.number (p 14 4)
+    (lit 32 false true 3 0))) ∷ [])) (t.more_item (t.generate_loop (p 16 5) (lo (x (codes "i") 18 5) (t.number (p 20
+    5) (lit 32 false true 0 0)) (t.chain (t.read (x (codes "i") 22 5) t.no_select) (t.more_link b.Lt (p 23 5)
+    (t.number (p 24 5) (lit 32 false true 2 0)) t.no_link)) (x (codes "i") 26 5) (t.chain (t.read (x (codes "i") 28
+    5) t.no_select) (t.more_link b.Add (p 29 5) (t.number (p 30 5) (lit 32 false true 1 0)) t.no_link))) (t.several
+    (p 32 5) None t.no_item)) t.no_item))) t.no_generate_branch) t.no_generate_else) t.no_item))) ∷ [])
+
+genvar_behind_a_parameter : fault_in limits genvar_behind_a_parameter_text ≡ Some (4, (Some 16, k.Misplaced))
+genvar_behind_a_parameter = refl
 
 -- module m;
 --   genvar i;
@@ -853,6 +944,47 @@ bounds_of_a_function_text =
 
 bounds_of_a_function : fault_in limits bounds_of_a_function_text ≡ Some (4, (Some 5, k.NotConstant))
 bounds_of_a_function = refl
+
+-- module m;
+--   parameter W = 4;
+--   function [3:0] f;
+--     input W;
+--     reg [W - 1:0] t;
+--     f = W;
+--   endfunction
+-- endmodule
+abbrev hidden_in_a_function_text : Source
+hidden_in_a_function_text =
+    ((md (p 0 1) (x (codes "m") 1 1) ([]) None (t.more_item (t.parameter (p 3 2) false false None ((vl (x (codes "W")
+    4 2) (t.number (p 6 2) (lit 32 false true 4 0))) ∷ [])) (t.more_item (t.function (fn (p 8 3) false false
+    (t.range_result (rg (p 9 3) (t.number (p 10 3) (lit 32 false true 3 0)) (t.number (p 12 3) (lit 32 false true 0
+    0)))) (x (codes "f") 14 3) ([]) ((t.inputs (p 16 4) false None ((x (codes "W") 17 4) ∷ [])) ∷ (t.variables (p 19
+    5) false (Some (rg (p 20 5) (t.chain (t.read (x (codes "W") 21 5) t.no_select) (t.more_link b.Sub (p 22 5)
+    (t.number (p 23 5) (lit 32 false true 1 0)) t.no_link)) (t.number (p 25 5) (lit 32 false true 0 0)))) ((x (codes
+    "t") 27 5) ∷ [])) ∷ []) (t.assign (t.name (x (codes "f") 29 6) t.no_select) t.blocking (p 30 6) (t.read (x (codes
+    "W") 31 6) t.no_select)))) t.no_item))) ∷ [])
+
+hidden_in_a_function : fault_in limits hidden_in_a_function_text ≡ Some (4, (Some 21, k.NotConstant))
+hidden_in_a_function = refl
+
+-- module m;
+--   parameter W = 4;
+--   function [W:0] f;
+--     input W;
+--     f = W;
+--   endfunction
+-- endmodule
+abbrev result_stands_outside_text : Source
+result_stands_outside_text =
+    ((md (p 0 1) (x (codes "m") 1 1) ([]) None (t.more_item (t.parameter (p 3 2) false false None ((vl (x (codes "W")
+    4 2) (t.number (p 6 2) (lit 32 false true 4 0))) ∷ [])) (t.more_item (t.function (fn (p 8 3) false false
+    (t.range_result (rg (p 9 3) (t.read (x (codes "W") 10 3) t.no_select) (t.number (p 12 3) (lit 32 false true 0
+    0)))) (x (codes "f") 14 3) ([]) ((t.inputs (p 16 4) false None ((x (codes "W") 17 4) ∷ [])) ∷ []) (t.assign
+    (t.name (x (codes "f") 19 5) t.no_select) t.blocking (p 20 5) (t.read (x (codes "W") 21 5) t.no_select))))
+    t.no_item))) ∷ [])
+
+result_stands_outside : fault_in limits result_stands_outside_text ≡ None
+result_stands_outside = refl
 
 -- module m;
 --   reg a [0:w];

@@ -164,6 +164,23 @@ of_a_function = refl
 
 -- module m;
 --   function f;
+--     reg a;
+--     input a;
+--     f = a;
+--   endfunction
+-- endmodule
+abbrev in_order_of_text_text : Source
+in_order_of_text_text =
+    ((md (p 0 1) (x (codes "m") 1 1) ([]) None (t.more_item (t.function (fn (p 3 2) false false t.bit_result (x
+    (codes "f") 4 2) ([]) ((t.variables (p 6 3) false None ((x (codes "a") 7 3) ∷ [])) ∷ (t.inputs (p 9 4) false None
+    ((x (codes "a") 10 4) ∷ [])) ∷ []) (t.assign (t.name (x (codes "f") 12 5) t.no_select) t.blocking (p 13 5)
+    (t.read (x (codes "a") 14 5) t.no_select)))) t.no_item)) ∷ [])
+
+in_order_of_text : fault_in limits in_order_of_text_text ≡ Some (5, (Some 10, k.Duplicate))
+in_order_of_text = refl
+
+-- module m;
+--   function f;
 --     input f;
 --     f = 1;
 --   endfunction
@@ -577,6 +594,43 @@ too_many_words_text =
 
 too_many_words : fault_in few too_many_words_text ≡ Some (5, (Some 18, k.TooManyWords))
 too_many_words = refl
+
+-- module c;
+--   reg n [0:7];
+-- endmodule
+-- module m;
+--   reg a [0:2000000];
+--   c x();
+-- endmodule
+abbrev words_of_a_bad_range_text : Source
+words_of_a_bad_range_text =
+    ((md (p 0 1) (x (codes "c") 1 1) ([]) None (t.more_item (t.registers (p 3 2) false None ((t.memory (x (codes "n")
+    4 2) (rg (p 5 2) (t.number (p 6 2) (lit 32 false true 0 0)) (t.number (p 8 2) (lit 32 false true 7 0)))) ∷ []))
+    t.no_item)) ∷ (md (p 12 4) (x (codes "m") 13 4) ([]) None (t.more_item (t.registers (p 15 5) false None
+    ((t.memory (x (codes "a") 16 5) (rg (p 17 5) (t.number (p 18 5) (lit 32 false true 0 0)) (t.number (p 20 5) (lit
+    32 false true 2000000 0)))) ∷ [])) (t.more_item (t.instances (x (codes "c") 23 6) None ((ins (x (codes "x") 24 6)
+    None) ∷ [])) t.no_item))) ∷ [])
+
+words_of_a_bad_range : fault_in few words_of_a_bad_range_text ≡ Some (5, (Some 20, k.BadRange))
+words_of_a_bad_range = refl
+
+-- module c;
+--   wire a, b, c;
+-- endmodule
+-- module m;
+--   wire a, a;
+--   c x();
+-- endmodule
+abbrev a_repeated_name_counts_once_text : Source
+a_repeated_name_counts_once_text =
+    ((md (p 0 1) (x (codes "c") 1 1) ([]) None (t.more_item (t.nets (p 3 2) false None ((nt (x (codes "a") 4 2) None)
+    ∷ (nt (x (codes "b") 6 2) None) ∷ (nt (x (codes "c") 8 2) None) ∷ [])) t.no_item)) ∷ (md (p 11 4) (x (codes "m")
+    12 4) ([]) None (t.more_item (t.nets (p 14 5) false None ((nt (x (codes "a") 15 5) None) ∷ (nt (x (codes "a") 17
+    5) None) ∷ [])) (t.more_item (t.instances (x (codes "c") 19 6) None ((ins (x (codes "x") 20 6) None) ∷ []))
+    t.no_item))) ∷ [])
+
+a_repeated_name_counts_once : fault_in few a_repeated_name_counts_once_text ≡ Some (5, (Some 17, k.Duplicate))
+a_repeated_name_counts_once = refl
 
 -- module m(input a, b, c);
 -- endmodule

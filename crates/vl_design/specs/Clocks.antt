@@ -4,6 +4,7 @@ use Rattle.std.specs.Prelude.{Bool, true, false, ◌&&◌, if◌then◌else◌, 
 use Rattle.vl_tree.specs.Syntax.{Expr, read, Exprs, more_expr, no_select, positive_edge, Sensed, sensed, Item, Items, always, region, no_item, more_item, Binds, ordered, by_name, NamedBind, Module, input, Port, declared_port, named_port, Name}
 use Rattle.vl_value.specs.Paths.{Text, Path, below}
 use Rattle.vl_value.specs.Constant.{Sight}
+use Rattle.vl_design.specs.Lists.{each_of}
 use Rattle.vl_design.specs.Scopes.{Scope, Level, levels, instance_of, ports_of}
 use Rattle.vl_design.specs.Objects.{Object, objects, object_at, sight}
 use Rattle.vl_design.specs.LoopVariables.{object_path, is_path_in}
@@ -13,13 +14,12 @@ abbrev pub plain_path : Sight → Expr → List Path
 plain_path s (read x no_select) = object_path (s x.text)
 plain_path s _ = []
 
-abbrev pub edge_paths : Sight → List Sensed → List Path
-edge_paths s [] = []
-edge_paths s (e ∷ es) = (elim e.edge [ positive_edge p ↦ plain_path s e.signal | _ ↦ [] ]) ++ edge_paths s es
+abbrev pub edge_paths : Sight → Sensed → List Path
+edge_paths s e = elim e.edge [ positive_edge p ↦ plain_path s e.signal | _ ↦ [] ]
 
 abbrev mutual
   pub clocked_by : Sight → Item → List Path
-  clocked_by s (always p (sensed es) b) = edge_paths s es
+  clocked_by s (always p (sensed es) b) = each_of (edge_paths s) es
   clocked_by s (region p is) = clocked_in s is
   clocked_by s _ = []
 
@@ -63,7 +63,7 @@ from_inside clocks s = elim s.origin [
 ]
 
 -- what is inside a scope stands behind it in preorder
-abbrev pub clock_names : List Scope → List Path
-clock_names [] = []
-clock_names (s ∷ ss) = let inner : List Path = clocked_in (sight (levels s)) s.items ++ clock_names ss in
+abbrev pub clocks_at_top : List Scope → List Path
+clocks_at_top [] = []
+clocks_at_top (s ∷ ss) = let inner : List Path = clocked_in (sight (levels s)) s.items ++ clocks_at_top ss in
     from_inside inner s ++ inner

@@ -6,7 +6,8 @@ use Rattle.vl_tree.specs.Syntax as t
 use Rattle.vl_tree.specs.Syntax.{Name, Direction, Kept, Directed, Range, Port, declared_port, named_port, FunctionPort, FunctionDeclaration, Function}
 use Rattle.vl_value.specs.Paths.{Text}
 use Rattle.vl_value.specs.Order.{Found}
-use Rattle.vl_design.specs.Constants.{Worth, Known}
+use Rattle.vl_design.specs.Lists.{each_of}
+use Rattle.vl_design.specs.Constants.{Worth, Known, without}
 use Rattle.vl_design.specs.Spans.{Span, one_bit, integer_span, optional_span, span_of, range_needs}
 use Rattle.vl_design.specs.Parameters.{Given, parameter_type, value_needs, values_worth, after_values}
 
@@ -22,11 +23,11 @@ pub record Local : Type 0 where
   pub signed : Bool
   pub span : Span
 
--- a function: its result, its inputs in order, and its other variables
+-- a function: its result, its inputs in order, and these and its other variables in order of text
 pub record Routine : Type 0 where
   pub result : Local
   pub inputs : List Local
-  pub variables : List Local
+  pub locals : List Local
 
 -- one declaration of one name
 pub data Declared : Type 0 where
@@ -72,10 +73,6 @@ abbrev pub words_needs : Known → t.Variable → List Found
 words_needs k (t.memory x r) = range_needs k (Some r)
 words_needs k _ = []
 
-abbrev pub all_words_needs : Known → List t.Variable → List Found
-all_words_needs k [] = []
-all_words_needs k (v ∷ vs) = words_needs k v ++ all_words_needs k vs
-
 -- ports of a header: a bare name behind a declared one takes its words
 abbrev pub header_ports : Known → Option Directed → List Port → List Declared
 header_ports k d [] = []
@@ -83,10 +80,13 @@ header_ports k d (declared_port e x ∷ ps) = directed_port k e x ∷ header_por
 header_ports k (Some d) (named_port x ∷ ps) = directed_port k d x ∷ header_ports k (Some d) ps
 header_ports k None (named_port x ∷ ps) = header_ports k None ps
 
-abbrev pub ports_needs : Known → List Port → List Found
-ports_needs k [] = []
-ports_needs k (declared_port d x ∷ ps) = range_needs k d.range ++ ports_needs k ps
-ports_needs k (named_port x ∷ ps) = ports_needs k ps
+abbrev pub port_needs : Known → Port → List Found
+port_needs k (declared_port d x) = range_needs k d.range
+port_needs k (named_port x) = []
+
+-- whether a text is one of some names
+abbrev pub is_any_name : Text → List Name → Bool
+is_any_name x xs = list_any (λ (n : Name). bytes_eq n.text x) xs
 
 -- ---- functions
 
@@ -108,20 +108,35 @@ abbrev pub declared_inputs : Known → FunctionDeclaration → List Local
 declared_inputs k (t.inputs p s r xs) = map (local s (optional_span k r)) xs
 declared_inputs k _ = []
 
-abbrev pub declared_variables : Known → FunctionDeclaration → List Local
-declared_variables k (t.variables p s r xs) = map (local s (optional_span k r)) xs
-declared_variables k (t.integers p xs) = map (local true integer_span) xs
-declared_variables k (t.inputs p s r xs) = []
+abbrev pub declared_locals : Known → FunctionDeclaration → List Local
+declared_locals k (t.inputs p s r xs) = map (local s (optional_span k r)) xs
+declared_locals k (t.variables p s r xs) = map (local s (optional_span k r)) xs
+declared_locals k (t.integers p xs) = map (local true integer_span) xs
 
-abbrev pub each_of : {A : Type 0} → {B : Type 0} → (A → List B) → List A → List B
-each_of f [] = []
-each_of f (a ∷ more) = f a ++ each_of f more
+-- names that a function has: its own, and those of its inputs and variables
+abbrev pub input_name : FunctionPort → Name
+input_name (t.declared_input p s r x) = x
+input_name (t.named_input x) = x
+
+abbrev pub local_names : FunctionDeclaration → List Name
+local_names (t.inputs p s r xs) = xs
+local_names (t.variables p s r xs) = xs
+local_names (t.integers p xs) = xs
+
+abbrev pub names_in : Function → List Name
+names_in f = f.name ∷ (map input_name f.ports ++ each_of local_names f.declarations)
+
+-- the constants in sight in a function: its names hide outer ones
+abbrev pub in_function : Function → Known → Known
+in_function f k = without (λ x. is_any_name x (names_in f)) k
 
 abbrev pub routine_of : Known → Function → Routine
 routine_of k f = record {
   result = result_of k f;
-  inputs = header_inputs k false one_bit f.ports ++ each_of (declared_inputs k) f.declarations;
-  variables = each_of (declared_variables k) f.declarations;
+  inputs = header_inputs (in_function f k) false one_bit f.ports
+      ++ each_of (declared_inputs (in_function f k)) f.declarations;
+  locals = header_inputs (in_function f k) false one_bit f.ports
+      ++ each_of (declared_locals (in_function f k)) f.declarations;
 }
 
 abbrev pub result_needs : Known → t.FunctionType → List Found
@@ -138,18 +153,18 @@ declaration_needs k (t.variables p s r xs) = range_needs k r
 declaration_needs k (t.integers p xs) = []
 
 abbrev pub function_needs : Known → Function → List Found
-function_needs k f = result_needs k f.result
-    ++ (each_of (input_needs k) f.ports ++ each_of (declaration_needs k) f.declarations)
+function_needs k f = result_needs k f.result ++ (each_of (input_needs (in_function f k)) f.ports
+    ++ each_of (declaration_needs (in_function f k)) f.declarations)
 
 -- ---- items that hold no others; what is given to parameters is given to those of a module alone
 
 abbrev pub item_needs : List Given → Known → t.Item → List Found
-item_needs gs k (t.parameter p only s r vs) =
-    range_needs k r ++ value_needs (if only then [] else gs) (parameter_type k s r) k vs
+item_needs gs k (t.parameter p is_local s r vs) =
+    range_needs k r ++ value_needs (if is_local then [] else gs) (parameter_type k s r) k vs
 item_needs gs k (t.directed d xs) = range_needs k d.range
 item_needs gs k (t.nets p s r ns) = range_needs k r
-item_needs gs k (t.registers p s r vs) = range_needs k r ++ all_words_needs k vs
-item_needs gs k (t.integer p vs) = all_words_needs k vs
+item_needs gs k (t.registers p s r vs) = range_needs k r ++ each_of (words_needs k) vs
+item_needs gs k (t.integer p vs) = each_of (words_needs k) vs
 item_needs gs k (t.function f) = function_needs k f
 item_needs gs k _ = []
 
@@ -157,8 +172,8 @@ abbrev pub parameter_by : Name × Worth → Declared
 parameter_by q = parameter q.0 q.1
 
 abbrev pub plain_declared : List Given → Known → t.Item → List Declared
-plain_declared gs k (t.parameter p only s r vs) =
-    map parameter_by (values_worth (if only then [] else gs) (parameter_type k s r) k vs)
+plain_declared gs k (t.parameter p is_local s r vs) =
+    map parameter_by (values_worth (if is_local then [] else gs) (parameter_type k s r) k vs)
 plain_declared gs k (t.directed d xs) = map (directed_port k d) xs
 plain_declared gs k (t.nets p s r ns) = map (λ (n : t.Net). object net (local s (optional_span k r) n.name)) ns
 plain_declared gs k (t.registers p s r vs) = map (variable_by k register s (optional_span k r)) vs
@@ -171,7 +186,7 @@ plain_declared gs k _ = []
 -- the constants in sight behind an item
 abbrev mutual
   pub known_after : List Given → Known → t.Item → Known
-  known_after gs k (t.parameter p only s r vs) = after_values (if only then [] else gs) (parameter_type k s r) k vs
+  known_after gs k (t.parameter p is_local s r vs) = after_values (if is_local then [] else gs) (parameter_type k s r) k vs
   known_after gs k (t.region p is) = all_known_after gs k is
   known_after gs k _ = k
 
@@ -196,15 +211,12 @@ object_names (t.function f) = f.name ∷ []
 object_names _ = []
 
 abbrev pub parameter_names : t.Item → List Name
-parameter_names (t.parameter p only s r vs) = map (λ (v : t.Valued). v.name) vs
+parameter_names (t.parameter p is_local s r vs) = map (λ (v : t.Valued). v.name) vs
 parameter_names _ = []
 
 abbrev pub genvar_names : t.Item → List Name
 genvar_names (t.genvar p xs) = xs
 genvar_names _ = []
-
-abbrev pub is_any_name : Text → List Name → Bool
-is_any_name x xs = list_any (λ (n : Name). bytes_eq n.text x) xs
 
 -- whether an item, or one in a region, has a name of this kind
 abbrev mutual

@@ -7,14 +7,14 @@ use Rattle.vl_value.specs.Paths.{Text, Path, below}
 use Rattle.vl_value.specs.Things.{Shape}
 use Rattle.vl_value.specs.Constant.{Sight}
 use Rattle.vl_value.specs.Order.{Found, least, of_phase}
+use Rattle.vl_design.specs.Lists.{each_of, stands_in}
 use Rattle.vl_design.specs.Limits.{Limits}
 use Rattle.vl_design.specs.Spans.{first_word, last_word}
-use Rattle.vl_design.specs.Parameters.{stands_in}
-use Rattle.vl_design.specs.Declarations.{Local, Routine, Declared, each_of}
+use Rattle.vl_design.specs.Declarations.{Local, Routine, Declared}
 use Rattle.vl_design.specs.Declarations as d
 use Rattle.vl_design.specs.Scopes.{Scope, Level, levels, Origin, instance_of, block, ports_of}
 use Rattle.vl_design.specs.Walk.{build, top_of, hierarchy_faults}
-use Rattle.vl_design.specs.Objects.{Object, objects, object_at, local_shape, sight}
+use Rattle.vl_design.specs.Objects.{counted, Object, objects, object_at, local_shape, sight}
 use Rattle.vl_design.specs.LoopVariables.{loop_variables, signals_of, is_path_in}
 use Rattle.vl_design.specs.Clocks.{port_name, connected}
 use Rattle.vl_design.specs.ObjectFaults.{object_faults, data_inputs}
@@ -43,12 +43,8 @@ pub record Signal : Type 0 where
 abbrev pub signal_in : Scope → Object → Signal
 signal_in s o = record { path = below s.level.path o.name.text; object = o }
 
-abbrev pub signals_in : List Path → List Scope → List Signal
-signals_in loops [] = []
-signals_in loops (s ∷ ss) = map (signal_in s) (signals_of loops s) ++ signals_in loops ss
-
 abbrev pub signals : List Scope → List Signal
-signals ss = signals_in (loop_variables ss) ss
+signals ss = each_of (λ s. map (signal_in s) (signals_of (loop_variables ss) s)) ss
 
 -- a memory with its path, the shape of its words, and the indices of its first and its last one
 pub record Memory : Type 0 where
@@ -67,7 +63,7 @@ memory_in p (d.memory l ws) = record {
 memory_in p _ = []
 
 abbrev pub memories : List Scope → List Memory
-memories ss = each_of (λ s. each_of (memory_in s.level.path) s.level.declared) ss
+memories ss = each_of (λ s. each_of (memory_in s.level.path) (counted s.level)) ss
 
 -- a function with its path and the scope in which it stands
 pub record Callable : Type 0 where
@@ -80,11 +76,11 @@ callable_in s (d.routine r) = record { path = below s.level.path r.result.name.t
 callable_in s _ = []
 
 abbrev pub callables : List Scope → List Callable
-callables ss = each_of (λ s. each_of (callable_in s) s.level.declared) ss
+callables ss = each_of (λ s. each_of (callable_in s) (counted s.level)) ss
 
 -- variables that are no signals: loop variables, and then those of functions
 abbrev pub locals_of : Callable → List Path
-locals_of c = map (λ (l : Local). below c.path l.name.text) (c.routine.inputs ++ c.routine.variables)
+locals_of c = map (λ (l : Local). below c.path l.name.text) c.routine.locals
 
 abbrev pub loop_variables_in : List Path → Scope → List Path
 loop_variables_in loops s = filter (is_path_in loops)

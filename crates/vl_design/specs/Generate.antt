@@ -10,7 +10,7 @@ use Rattle.vl_value.specs.Meaning.{Meaning, assigned, true_of}
 use Rattle.vl_value.specs.Order.{Found, at}
 use Rattle.vl_design.specs.Limits.{Limits}
 use Rattle.vl_design.specs.Constants.{worth, Known, with_constant, without, value_of, needs}
-use Rattle.vl_design.specs.Declarations.{Declared, inner, object_names, parameter_names, genvar_names, have_name, known_after}
+use Rattle.vl_design.specs.Declarations.{Declared, inner, object_names, parameter_names, genvar_names, have_name, known_after, has_name}
 use Rattle.vl_design.specs.Parameters.{Given}
 
 -- ---- what is in sight
@@ -20,10 +20,10 @@ pub record Around : Type 0 where
   pub known : Known
   pub is_genvar : Text → Bool
 
--- in a scope a name of its own hides an outer one, wherever in it that is declared
+-- in a scope an object of its own hides an outer name, wherever in it that is declared
 abbrev pub genvars_in : Items → (Text → Bool) → Text → Bool
 genvars_in is f x = have_name genvar_names is x
-    || (not (have_name object_names is x || have_name parameter_names is x) && f x)
+    || (not (have_name object_names is x) && f x)
 
 abbrev pub entered : Items → Around → Around
 entered is a = record {
@@ -31,15 +31,18 @@ entered is a = record {
   is_genvar = genvars_in is a.is_genvar;
 }
 
--- behind an item
+-- behind an item: its parameters are in sight, and hide a genvar
 abbrev pub behind : List Given → Around → Item → Around
-behind gs a i = record { known = known_after gs a.known i; is_genvar = a.is_genvar }
+behind gs a i = record {
+  known = known_after gs a.known i;
+  is_genvar = λ x. not (has_name parameter_names i x) && a.is_genvar x;
+}
 
 -- a turn's genvar and its number, which is signed and has 32 bits
 abbrev pub in_turn : Text → ℕ → Around → Around
 in_turn x n a = record { known = with_constant x (worth 32 true n) a.known; is_genvar = a.is_genvar }
 
--- ---- turns of a loop (12.4.2)
+-- ---- turns of a loop (12.4.1)
 
 -- whether a loop has one variable, which is a genvar
 abbrev pub has_one_genvar : Around → Loop → Bool

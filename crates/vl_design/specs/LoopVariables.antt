@@ -7,8 +7,9 @@ use Rattle.vl_value.specs.Paths.{Text, Path, same_path, below}
 use Rattle.vl_value.specs.Things.{Thing, signal}
 use Rattle.vl_value.specs.Constant.{Sight}
 use Rattle.vl_design.specs.Declarations.{Declared, routine}
+use Rattle.vl_design.specs.Lists.{each_of}
 use Rattle.vl_design.specs.Scopes.{Scope, levels}
-use Rattle.vl_design.specs.Objects.{Object, objects, sight, body_sight, first_named}
+use Rattle.vl_design.specs.Objects.{counted, Object, objects, sight, body_sight, first_named}
 
 -- names of the variables of `for` statements
 abbrev mutual
@@ -42,8 +43,7 @@ object_path (Some (signal p sh)) = p ∷ []
 object_path _ = []
 
 abbrev pub paths_in : Sight → List Text → List Path
-paths_in s [] = []
-paths_in s (x ∷ xs) = object_path (s x) ++ paths_in s xs
+paths_in s xs = each_of (λ x. object_path (s x)) xs
 
 abbrev pub is_routine : Declared → Bool
 is_routine (routine r) = true
@@ -51,7 +51,7 @@ is_routine _ = false
 
 -- what is in sight in the body of a function of a scope
 abbrev pub function_sight : Scope → Function → Sight
-function_sight s f = elim (first_named is_routine f.name.text s.level.declared) [
+function_sight s f = elim (first_named is_routine f.name.text (counted s.level)) [
   | Some (routine r) ↦ body_sight s.level s.outer r
   | _ ↦ sight (levels s)
 ]
@@ -69,8 +69,7 @@ abbrev mutual
   looped_in s (more_item i is) = looped_by s i ++ looped_in s is
 
 abbrev pub loop_variables : List Scope → List Path
-loop_variables [] = []
-loop_variables (s ∷ ss) = looped_in s s.items ++ loop_variables ss
+loop_variables ss = each_of (λ (s : Scope). looped_in s s.items) ss
 
 abbrev pub is_path_in : List Path → Path → Bool
 is_path_in ps p = list_any (same_path p) ps

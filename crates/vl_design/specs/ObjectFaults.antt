@@ -9,20 +9,21 @@ use Rattle.vl_value.specs.Paths.{Text, Path, below}
 use Rattle.vl_value.specs.Things.{Shape, width_of, distance}
 use Rattle.vl_value.specs.Order.{Found, at}
 use Rattle.vl_value.specs.Faults.{start}
+use Rattle.vl_design.specs.Lists.{each_of, stands_in}
 use Rattle.vl_design.specs.Limits.{Limits}
 use Rattle.vl_design.specs.Spans.{Span, shape, vector_faults, words_faults, first_word, last_word}
 use Rattle.vl_design.specs.Declarations.{net, Local, Routine, Declared, port, object, memory, routine, name_of, is_named}
 use Rattle.vl_design.specs.Scopes.{Scope, Origin, instance_of, block, ports_of}
-use Rattle.vl_design.specs.Objects.{may_unite, Object}
+use Rattle.vl_design.specs.Objects.{may_unite, counted, Object}
 use Rattle.vl_design.specs.LoopVariables.{loop_variables, signals_of, is_path_in}
-use Rattle.vl_design.specs.Clocks.{clock_names, port_name, is_input}
+use Rattle.vl_design.specs.Clocks.{clocks_at_top, port_name, is_input}
 
 -- ---- declarations of one name
 
-abbrev pub span_of : Declared → Option Span
-span_of (port w k l) = Some l.span
-span_of (object k l) = Some l.span
-span_of _ = None
+abbrev pub declared_span : Declared → Option Span
+declared_span (port w k l) = Some l.span
+declared_span (object k l) = Some l.span
+declared_span _ = None
 
 abbrev pub same_bounds : Shape → Shape → Bool
 same_bounds a b = (a.left == b.left) && (a.right == b.right)
@@ -42,7 +43,7 @@ is_variable _ = false
 
 -- two declarations that make one object: their ranges agree, and an input is no variable
 abbrev pub united_faults : Declared → Declared → List Found
-united_faults a b = if spans_agree (span_of a) (span_of b)
+united_faults a b = if spans_agree (declared_span a) (declared_span b)
     && not ((is_input_port a && is_variable b) || (is_variable a && is_input_port b))
     then [] else at (name_of b).place BadPort ∷ []
 
@@ -63,17 +64,13 @@ same_names before (b ∷ ds) =
 abbrev pub local_faults : Local → List Found
 local_faults l = vector_faults l.name.place l.span
 
-abbrev pub all_local_faults : List Local → List Found
-all_local_faults [] = []
-all_local_faults (l ∷ ls) = local_faults l ++ all_local_faults ls
-
 -- names of a function: its own, its inputs and its variables
 abbrev pub routine_locals : Routine → List Local
-routine_locals r = r.result ∷ (r.inputs ++ r.variables)
+routine_locals r = r.result ∷ r.locals
 
 abbrev pub same_locals : List Text → List Local → List Found
 same_locals before [] = []
-same_locals before (l ∷ ls) = (if list_any (bytes_eq l.name.text) before then at l.name.place Duplicate ∷ [] else [])
+same_locals before (l ∷ ls) = (if stands_in before l.name.text then at l.name.place Duplicate ∷ [] else [])
     ++ same_locals (l.name.text ∷ before) ls
 
 -- `input reg`
@@ -85,12 +82,8 @@ abbrev pub declaration_faults : Declared → List Found
 declaration_faults (port w k l) = kept_faults w k l.name ++ local_faults l
 declaration_faults (object k l) = local_faults l
 declaration_faults (memory l ws) = local_faults l ++ words_faults ws
-declaration_faults (routine r) = same_locals [] (routine_locals r) ++ all_local_faults (routine_locals r)
+declaration_faults (routine r) = same_locals [] (routine_locals r) ++ each_of local_faults (routine_locals r)
 declaration_faults _ = []
-
-abbrev pub declarations_faults : List Declared → List Found
-declarations_faults [] = []
-declarations_faults (a ∷ ds) = declaration_faults a ++ declarations_faults ds
 
 -- ---- ports of a header
 
@@ -99,7 +92,7 @@ has_direction ds x = list_any (λ a. is_named x a && (elim a [ port w k l ↦ tr
 
 -- a header of bare names: each is a port of one direction, which items declare
 abbrev pub bare_faults : List Declared → List Text → List Port → List Found
-bare_faults ds before (named_port x ∷ ps) = (if list_any (bytes_eq x.text) before then at x.place Duplicate ∷ []
+bare_faults ds before (named_port x ∷ ps) = (if stands_in before x.text then at x.place Duplicate ∷ []
     else (if has_direction ds x.text then [] else at x.place BadPort ∷ [])) ++ bare_faults ds (x.text ∷ before) ps
 bare_faults ds before _ = []
 
@@ -109,20 +102,20 @@ bare_faults ds before _ = []
 abbrev pub is_port : Module → List Declared → Text → Bool
 is_port m ds x = list_any (λ p. bytes_eq (port_name p).text x) (ports_of m) || has_direction ds x
 
-abbrev pub order_faults : List Port → Exprs → List Found
-order_faults (p ∷ ps) (more_expr e es) = order_faults ps es
-order_faults [] (more_expr e es) = at (start e) BadPort ∷ []
-order_faults _ no_expr = []
+abbrev pub connection_order_faults : List Port → Exprs → List Found
+connection_order_faults (p ∷ ps) (more_expr e es) = connection_order_faults ps es
+connection_order_faults [] (more_expr e es) = at (start e) BadPort ∷ []
+connection_order_faults _ no_expr = []
 
 abbrev pub named_faults : Module → List Declared → List Text → List NamedBind → List Found
 named_faults m ds before [] = []
 named_faults m ds before (b ∷ bs) = (if is_port m ds b.name.text
-    then (if list_any (bytes_eq b.name.text) before then at b.name.place BadPort ∷ [] else [])
+    then (if stands_in before b.name.text then at b.name.place BadPort ∷ [] else [])
     else at b.name.place UnknownPort ∷ []) ++ named_faults m ds (b.name.text ∷ before) bs
 
 abbrev pub connection_faults : Module → List Declared → Option Binds → List Found
 connection_faults m ds None = []
-connection_faults m ds (Some (ordered es)) = order_faults (ports_of m) es
+connection_faults m ds (Some (ordered es)) = connection_order_faults (ports_of m) es
 connection_faults m ds (Some (by_name bs)) = named_faults m ds [] bs
 
 abbrev pub origin_faults : List Declared → Origin → List Found
@@ -132,17 +125,9 @@ origin_faults ds block = []
 
 abbrev pub scope_faults : Scope → List Found
 scope_faults s = same_names [] s.level.declared
-    ++ (declarations_faults s.level.declared ++ origin_faults s.level.declared s.origin)
-
-abbrev pub all_scope_faults : List Scope → List Found
-all_scope_faults [] = []
-all_scope_faults (s ∷ ss) = scope_faults s ++ all_scope_faults ss
+    ++ (each_of declaration_faults s.level.declared ++ origin_faults s.level.declared s.origin)
 
 -- ---- limits: the first thing that passes one
-
-abbrev pub each_signal : List Path → List Scope → List Object
-each_signal loops [] = []
-each_signal loops (s ∷ ss) = signals_of loops s ++ each_signal loops ss
 
 -- of things in order, each with its place and its count, the first with which the sum is above the most
 abbrev pub beyond : ℕ → ℕ → List (Place × ℕ) → Option Place
@@ -153,33 +138,32 @@ abbrev pub told : Option Place → FaultKind → List Found
 told None k = []
 told (Some p) k = at p k ∷ []
 
-abbrev pub counted : (Object → ℕ) → List Object → List (Place × ℕ)
-counted f os = map (λ (o : Object). (o.name.place, f o)) os
+abbrev pub places_of : (Object → ℕ) → List Object → List (Place × ℕ)
+places_of f os = map (λ (o : Object). (o.name.place, f o)) os
 
+-- a memory's words; of a range with a fault none are counted
 abbrev pub memory_words : Declared → List (Place × ℕ)
-memory_words (memory l ws) = (l.name.place, suc (distance (first_word ws) (last_word ws))) ∷ []
+memory_words (memory l ws) = elim (words_faults ws) [
+  | [] ↦ (l.name.place, suc (distance (first_word ws) (last_word ws))) ∷ []
+  | f ∷ fs ↦ []
+]
 memory_words _ = []
 
-abbrev pub all_memory_words : List Declared → List (Place × ℕ)
-all_memory_words [] = []
-all_memory_words (a ∷ ds) = memory_words a ++ all_memory_words ds
-
-abbrev pub each_memory : List Scope → List (Place × ℕ)
-each_memory [] = []
-each_memory (s ∷ ss) = all_memory_words s.level.declared ++ each_memory ss
+abbrev pub words_of : Scope → List (Place × ℕ)
+words_of s = each_of memory_words (counted s.level)
 
 -- the data inputs of the top: its inputs that are no clock names
 abbrev pub data_inputs : List Scope → List Object
 data_inputs [] = []
-data_inputs (s ∷ ss) = let clocks : List Path = clock_names (s ∷ ss) in
+data_inputs (s ∷ ss) = let clocks : List Path = clocks_at_top (s ∷ ss) in
     filter (λ (o : Object). is_input (Some o) && not (is_path_in clocks (below s.level.path o.name.text)))
     (signals_of (loop_variables (s ∷ ss)) s)
 
 abbrev pub limit_faults : Limits → List Scope → List Found
-limit_faults q ss = told (beyond q.signals 0 (counted (λ o. 1) (each_signal (loop_variables ss) ss))) TooManySignals
-    ++ (told (beyond q.words 0 (each_memory ss)) TooManyWords
-    ++ (told (beyond q.inputs 0 (counted (λ o. 1) (data_inputs ss))) TooManyInputs
-    ++ told (beyond q.input_bits 0 (counted (λ (o : Object). width_of o.shape) (data_inputs ss))) TooManyInputs))
+limit_faults q ss = told (beyond q.signals 0 (places_of (λ o. 1) (each_of (signals_of (loop_variables ss)) ss))) TooManySignals
+    ++ (told (beyond q.words 0 (each_of words_of ss)) TooManyWords
+    ++ (told (beyond q.inputs 0 (places_of (λ o. 1) (data_inputs ss))) TooManyInputs
+    ++ told (beyond q.input_bits 0 (places_of (λ (o : Object). width_of o.shape) (data_inputs ss))) TooManyInputs))
 
 abbrev pub object_faults : Limits → List Scope → List Found
-object_faults q ss = all_scope_faults ss ++ limit_faults q ss
+object_faults q ss = each_of scope_faults ss ++ limit_faults q ss

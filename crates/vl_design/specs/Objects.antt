@@ -1,7 +1,7 @@
 -- The objects that a scope declares: nets and variables, memories, parameters and functions (IEEE 1364-2005, clauses 4.2, 4.9,
--- 10.4, 12.3.3 and 12.5), and what a name stands for among them. Where a name has a fault of phase 5, its first declaration
--- counts.
-use Rattle.std.specs.Prelude.{ℕ, Bool, true, false, ◌&&◌, ◌||◌, if◌then◌else◌, List, [], ◌∷◌, ◌++◌, map, bytes_eq, Option, Some, None}
+-- 10.4, 12.3.3 and 12.5), and what a name stands for among them. A declaration that repeats a name, which is a fault, counts for
+-- nothing.
+use Rattle.std.specs.Prelude.{ℕ, Bool, true, false, ◌&&◌, ◌||◌, if◌then◌else◌, List, [], ◌∷◌, ◌++◌, map, bytes_eq, Option, Some, None, filter}
 use Rattle.std.specs.List.{list_any}
 use Rattle.vl_tree.specs.Syntax.{Name, Direction, Kept, wire, reg}
 use Rattle.vl_value.specs.Paths.{Text, Path, below}
@@ -25,6 +25,21 @@ is_plain_object _ = false
 
 abbrev pub may_unite : Declared → Declared → Bool
 may_unite a b = (is_bare_port a && is_plain_object b) || (is_plain_object a && is_bare_port b)
+
+-- whether a declaration counts behind those of its name
+abbrev pub counts_behind : List Declared → Declared → Bool
+counts_behind [] b = true
+counts_behind (a ∷ []) b = may_unite a b
+counts_behind (a ∷ c ∷ ds) b = false
+
+abbrev pub counted_behind : List Declared → List Declared → List Declared
+counted_behind before [] = []
+counted_behind before (b ∷ ds) = (if counts_behind (filter (is_named (name_of b).text) before) b then b ∷ [] else [])
+    ++ counted_behind (before ++ b ∷ []) ds
+
+-- the declarations of a scope, but for those that repeat a name
+abbrev pub counted : Level → List Declared
+counted l = counted_behind [] l.declared
 
 -- the first of a name that passes a test
 abbrev pub first_named : (Declared → Bool) → Text → List Declared → Option Declared
@@ -73,7 +88,7 @@ objects_of ds (a ∷ more) = object_of ds a ++ objects_of ds more
 
 -- those of a scope, in order of text
 abbrev pub objects : Level → List Object
-objects l = objects_of l.declared l.declared
+objects l = objects_of (counted l) (counted l)
 
 abbrev pub object_at : List Object → Text → Option Object
 object_at [] x = None
@@ -120,9 +135,9 @@ either (Some a) b = Some a
 either None b = b
 
 abbrev pub level_thing : Level → Text → Option Thing
-level_thing l x = either (declared_thing l x (first_named is_in_sight x l.declared)) (turn_thing l.turn x)
+level_thing l x = either (declared_thing l x (first_named is_in_sight x (counted l))) (turn_thing l.turn x)
 
--- from the innermost scope to the module (12.7 and 12.4.2, within one module)
+-- from the innermost scope to the module (12.7 and 12.4, within one module)
 abbrev pub sight : List Level → Sight
 sight [] x = None
 sight (l ∷ ls) x = either (level_thing l x) (sight ls x)
@@ -137,5 +152,5 @@ abbrev pub own_thing : Path → Routine → Text → Option Thing
 own_thing p r x = if bytes_eq r.result.name.text x then Some (routine_thing true p r) else None
 
 abbrev pub body_sight : Level → List Level → Routine → Sight
-body_sight l outer r x = either (local_thing (below l.path r.result.name.text) (r.inputs ++ r.variables) x)
+body_sight l outer r x = either (local_thing (below l.path r.result.name.text) r.locals x)
     (either (own_thing l.path r x) (sight (l ∷ outer) x))

@@ -9,6 +9,7 @@ use Rattle.vl_value.specs.Things.{Shape, width_of}
 use Rattle.vl_value.specs.Meaning.{Meaning, own, assigned}
 use Rattle.vl_value.specs.Order.{Found, at}
 use Rattle.vl_value.specs.Faults.{start}
+use Rattle.vl_design.specs.Lists.{stands_in}
 use Rattle.vl_design.specs.Constants.{Worth, worth, faulty, Known, with_constant, value_of, needs}
 use Rattle.vl_design.specs.Spans.{Span, span_of, range_needs, vector_faults, shape_of}
 
@@ -132,7 +133,7 @@ header_worth gs t k (h ∷ hs) = let u : ParameterType = header_type k t h in
 
 abbrev mutual
   pub open_by : Item → List Text
-  open_by (parameter p only s r vs) = if only then [] else map (λ (v : Valued). v.name.text) vs
+  open_by (parameter p is_local s r vs) = if is_local then [] else map (λ (v : Valued). v.name.text) vs
   open_by (region p is) = open_in is
   open_by _ = []
 
@@ -143,18 +144,15 @@ abbrev mutual
 abbrev pub open_parameters : Module → List Text
 open_parameters m = map (λ (h : HeaderParameter). (header_value h).name.text) m.parameters ++ open_in m.items
 
-abbrev pub stands_in : List Text → Text → Bool
-stands_in xs x = list_any (bytes_eq x) xs
-
 -- in order; the first of too many is a fault
 abbrev pub given_in_order : Known → List Text → Exprs → List Given
 given_in_order k (x ∷ xs) (more_expr e es) = given_by k x e ∷ given_in_order k xs es
 given_in_order k _ _ = []
 
-abbrev pub order_faults : Known → List Text → Exprs → List Found
-order_faults k (x ∷ xs) (more_expr e es) = needs k e ++ order_faults k xs es
-order_faults k [] (more_expr e es) = at (start e) UnknownParameter ∷ []
-order_faults k _ no_expr = []
+abbrev pub value_order_faults : Known → List Text → Exprs → List Found
+value_order_faults k (x ∷ xs) (more_expr e es) = needs k e ++ value_order_faults k xs es
+value_order_faults k [] (more_expr e es) = at (start e) UnknownParameter ∷ []
+value_order_faults k _ no_expr = []
 
 -- by name; `.P()` gives none, and a name that isn't there, or that was bound before, is a fault
 abbrev pub given_by_name : Known → List Text → List NamedBind → List Given
@@ -179,6 +177,6 @@ given_of k m (Some (Some (by_name bs))) = given_by_name k (open_parameters m) bs
 given_of k m _ = []
 
 abbrev pub binds_faults : Known → Module → Option (Option Binds) → List Found
-binds_faults k m (Some (Some (ordered es))) = order_faults k (open_parameters m) es
+binds_faults k m (Some (Some (ordered es))) = value_order_faults k (open_parameters m) es
 binds_faults k m (Some (Some (by_name bs))) = name_faults k (open_parameters m) [] bs
 binds_faults k m _ = []

@@ -1,15 +1,16 @@
 -- Instances and generate scopes from the top down, in preorder (IEEE 1364-2005, clauses 12.1 to 12.5), with the faults of
--- phase 4 on the way. What a text asks for is a list of events; `specs/Walk` says how far it is heard.
+-- phase 4 on the way. What a text asks for is a list of requests; `specs/Walk` says how far it is heard.
 use Rattle.std.specs.Prelude.{ℕ, zero, suc, ◌+◌, Bool, true, false, if◌then◌else◌, List, [], ◌∷◌, ◌++◌, map, bytes_eq, Option, Some, None}
 use Rattle.vl_tree.specs.declared.fault.FaultKind.TheVariants.{UnknownModule, TooDeep, Misplaced}
 use Rattle.vl_tree.specs.Syntax.{Place, Name, Port, Binds, Instance, Item, Items, GenerateBlock, GenerateBranches, GenerateElse, Module, Source, parameter, directed, instances, region, generate_loop, generate_if, no_item, more_item, single, several, no_generate_branch, more_generate_branch, no_generate_else, generate_else}
 use Rattle.vl_value.specs.Paths.{Text, Path, Step, named}
 use Rattle.vl_value.specs.Meaning.{Meaning, true_of}
 use Rattle.vl_value.specs.Order.{Found, at}
+use Rattle.vl_design.specs.Lists.{each_of}
 use Rattle.vl_design.specs.Limits.{Limits}
 use Rattle.vl_design.specs.Constants.{Known, nothing_known, value_of, needs}
 use Rattle.vl_design.specs.Parameters.{Given, no_type, after_header, header_needs, header_worth, given_of, binds_faults}
-use Rattle.vl_design.specs.Declarations.{Declared, parameter_by, plain_declared, item_needs, header_ports, ports_needs}
+use Rattle.vl_design.specs.Declarations.{Declared, parameter_by, plain_declared, item_needs, header_ports, port_needs}
 use Rattle.vl_design.specs.Generate.{Around, entered, behind, in_turn, genvars_in, has_one_genvar, turns_of, step_of, label_of, turn_number, constructs_of, is_if, label_declared, loop_declared, items_tokens, turn_tokens}
 
 -- ---- scopes
@@ -40,17 +41,17 @@ pub record Scope : Type 0 where
 abbrev pub levels : Scope → List Level
 levels s = s.level ∷ s.outer
 
--- ---- events
+-- ---- what is asked for
 
-pub data Event : Type 0 where
+pub data Request : Type 0 where
   -- an instance begins, whose name stands there
-  instance_begins : Place → Event
+  instance_begins : Place → Request
   -- so many expanded tokens
-  expands : ℕ → Event
-  opens : Scope → Event
-  fails : Found → Event
+  expands : ℕ → Request
+  opens : Scope → Request
+  fails : Found → Request
 
-abbrev pub failing : List Found → List Event
+abbrev pub failing : List Found → List Request
 failing fs = map fails fs
 
 -- an instance that is asked for
@@ -69,13 +70,13 @@ pub record Here : Type 0 where
 
 -- makes an instance of a module
 abbrev pub Maker : Type 0
-Maker = Use → Module → List Event
+Maker = Use → Module → List Request
 
 abbrev pub module_at : Source → Text → Option Module
 module_at [] x = None
 module_at (m ∷ ms) x = if bytes_eq m.name.text x then Some m else module_at ms x
 
-abbrev pub each_instance : Maker → Here → List Given → Module → List Instance → List Event
+abbrev pub each_instance : Maker → Here → List Given → Module → List Instance → List Request
 each_instance make h gs m [] = []
 each_instance make h gs m (i ∷ is) = make (record {
   place = i.name.place;
@@ -84,9 +85,10 @@ each_instance make h gs m (i ∷ is) = make (record {
   joined = Some (record { outer = h.levels; binds = i.binds });
 }) m ++ each_instance make h gs m is
 
--- instances of a name, which has to be a module's
-abbrev pub instances_by : Maker → Here → Known → Name → Option Module → Option (Option Binds) → List Instance → List Event
-instances_by make h k x None ps is = fails (at x.place UnknownModule) ∷ []
+-- instances of a name, which has to be a module's; else they count, and have nothing in them
+abbrev pub instances_by : Maker → Here → Known → Name → Option Module → Option (Option Binds) → List Instance → List Request
+instances_by make h k x None ps is =
+    fails (at x.place UnknownModule) ∷ map (λ (i : Instance). instance_begins i.name.place) is
 instances_by make h k x (Some m) ps is =
     failing (binds_faults k m ps) ++ each_instance make h (given_of k m ps) m is
 
@@ -128,7 +130,7 @@ abbrev mutual
   else_declared q gs a no_generate_else = []
   else_declared q gs a (generate_else b) = block_declared q gs a b
 
--- ---- events of items
+-- ---- requests of items
 
 -- what is in sight in a block, what it declares, and its items
 abbrev pub body_around : GenerateBlock → Around → Around
@@ -154,59 +156,55 @@ block_scope q h st t a b = record {
 abbrev pub within : Scope → Here
 within s = record { given = []; path = s.level.path; levels = levels s; in_block = true }
 
--- the scope of a block, and the events of its items
-abbrev pub in_scope : Limits → Here → Step → Option (Text × ℕ) → Around → GenerateBlock → (Here → Around → List Event) → List Event
+-- the scope of a block, and the requests of its items
+abbrev pub in_scope : Limits → Here → Step → Option (Text × ℕ) → Around → GenerateBlock → (Here → Around → List Request) → List Request
 in_scope q h st t a b f =
     opens (block_scope q h st t a b) ∷ f (within (block_scope q h st t a b)) (body_around b a)
 
 abbrev pub turn_step : ℕ → GenerateBlock → ℕ → Step
 turn_step n b k = step_of n (label_of b) (Some (turn_number k))
 
-abbrev pub each_turn : (ℕ → List Event) → List ℕ → List Event
-each_turn f [] = []
-each_turn f (n ∷ ns) = f n ++ each_turn f ns
-
 abbrev mutual
-  pub item_events : Maker → Source → Limits → Here → ℕ → Around → Item → List Event
-  item_events make src q h n a (instances x ps is) = instances_by make h a.known x (module_at src x.text) ps is
-  item_events make src q h n a (region p is) = items_events make src q h n a is
-  item_events make src q h n a (generate_loop p l b) = if has_one_genvar a l
-      then each_turn (λ k. expands (turn_tokens b) ∷ scope_events make src q h (turn_step n b k)
+  pub item_requests : Maker → Source → Limits → Here → ℕ → Around → Item → List Request
+  item_requests make src q h n a (instances x ps is) = instances_by make h a.known x (module_at src x.text) ps is
+  item_requests make src q h n a (region p is) = items_requests make src q h n a is
+  item_requests make src q h n a (generate_loop p l b) = if has_one_genvar a l
+      then each_of (λ k. expands (turn_tokens b) ∷ scope_requests make src q h (turn_step n b k)
       (Some (l.variable.text, k)) (in_turn l.variable.text k a) b) (turns_of q p a l).numbers
       ++ failing (turns_of q p a l).faults
       else fails (at p Misplaced) ∷ []
-  item_events make src q h n a (generate_if bs e) = branch_events make src q h n a bs (else_events make src q h n a e)
-  item_events make src q h n a i = failing (misplaced h.in_block i ++ item_needs h.given a.known i)
+  item_requests make src q h n a (generate_if bs e) = branch_requests make src q h n a bs (else_requests make src q h n a e)
+  item_requests make src q h n a i = failing (misplaced h.in_block i ++ item_needs h.given a.known i)
 
-  pub items_events : Maker → Source → Limits → Here → ℕ → Around → Items → List Event
-  items_events make src q h n a no_item = []
-  items_events make src q h n a (more_item i is) =
-      item_events make src q h n a i ++ items_events make src q h (n + constructs_of i) (behind h.given a i) is
+  pub items_requests : Maker → Source → Limits → Here → ℕ → Around → Items → List Request
+  items_requests make src q h n a no_item = []
+  items_requests make src q h n a (more_item i is) =
+      item_requests make src q h n a i ++ items_requests make src q h (n + constructs_of i) (behind h.given a i) is
 
   -- a block that makes a scope
-  pub scope_events : Maker → Source → Limits → Here → Step → Option (Text × ℕ) → Around → GenerateBlock → List Event
-  scope_events make src q h st t a (single i) =
-      in_scope q h st t a (single i) (λ g c. item_events make src q g 1 c i)
-  scope_events make src q h st t a (several p x is) =
-      in_scope q h st t a (several p x is) (λ g c. items_events make src q g 1 c is)
+  pub scope_requests : Maker → Source → Limits → Here → Step → Option (Text × ℕ) → Around → GenerateBlock → List Request
+  scope_requests make src q h st t a (single i) =
+      in_scope q h st t a (single i) (λ g c. item_requests make src q g 1 c i)
+  scope_requests make src q h st t a (several p x is) =
+      in_scope q h st t a (several p x is) (λ g c. items_requests make src q g 1 c is)
 
   -- a branch that is taken; an `if` that stands directly as one makes no scope
-  pub block_events : Maker → Source → Limits → Here → ℕ → Around → GenerateBlock → List Event
-  block_events make src q h n a (single i) = if is_if i then item_events make src q h n a i
-      else in_scope q h (step_of n None None) None a (single i) (λ g c. item_events make src q g 1 c i)
-  block_events make src q h n a (several p x is) =
-      in_scope q h (step_of n x None) None a (several p x is) (λ g c. items_events make src q g 1 c is)
+  pub block_requests : Maker → Source → Limits → Here → ℕ → Around → GenerateBlock → List Request
+  block_requests make src q h n a (single i) = if is_if i then item_requests make src q h n a i
+      else in_scope q h (step_of n None None) None a (single i) (λ g c. item_requests make src q g 1 c i)
+  block_requests make src q h n a (several p x is) =
+      in_scope q h (step_of n x None) None a (several p x is) (λ g c. items_requests make src q g 1 c is)
 
-  pub branch_events : Maker → Source → Limits → Here → ℕ → Around → GenerateBranches → List Event → List Event
-  branch_events make src q h n a no_generate_branch last = last
-  branch_events make src q h n a (more_generate_branch p e b bs) last = taken (value_of a.known e)
-      (failing (needs a.known e)) (block_events make src q h n a b) (branch_events make src q h n a bs last)
+  pub branch_requests : Maker → Source → Limits → Here → ℕ → Around → GenerateBranches → List Request → List Request
+  branch_requests make src q h n a no_generate_branch last = last
+  branch_requests make src q h n a (more_generate_branch p e b bs) last = taken (value_of a.known e)
+      (failing (needs a.known e)) (block_requests make src q h n a b) (branch_requests make src q h n a bs last)
 
-  pub else_events : Maker → Source → Limits → Here → ℕ → Around → GenerateElse → List Event
-  else_events make src q h n a no_generate_else = []
-  else_events make src q h n a (generate_else b) = block_events make src q h n a b
+  pub else_requests : Maker → Source → Limits → Here → ℕ → Around → GenerateElse → List Request
+  else_requests make src q h n a no_generate_else = []
+  else_requests make src q h n a (generate_else b) = block_requests make src q h n a b
 
--- ---- events of instances
+-- ---- requests of instances
 
 abbrev pub ports_of : Module → List Port
 ports_of m = elim m.ports [ Some ps ↦ ps | None ↦ [] ]
@@ -233,20 +231,20 @@ module_scope q u m = record {
 abbrev pub inside : Use → Scope → Here
 inside u s = record { given = u.given; path = u.path; levels = levels s; in_block = false }
 
-abbrev pub module_events : Maker → Source → Limits → Use → Module → List Event
-module_events make src q u m = instance_begins u.place ∷ (expands (items_tokens m.items)
+abbrev pub module_requests : Maker → Source → Limits → Use → Module → List Request
+module_requests make src q u m = instance_begins u.place ∷ (expands (items_tokens m.items)
     ∷ (opens (module_scope q u m)
-    ∷ (failing (header_needs u.given no_type nothing_known m.parameters ++ ports_needs (at_entry u m).known (ports_of m))
-    ++ items_events make src q (inside u (module_scope q u m)) 1 (at_entry u m) m.items)))
+    ∷ (failing (header_needs u.given no_type nothing_known m.parameters ++ each_of (port_needs (at_entry u m).known) (ports_of m))
+    ++ items_requests make src q (inside u (module_scope q u m)) 1 (at_entry u m) m.items)))
 
 -- an instance in which so many may lie in one another, itself among them
-abbrev pub instance_events : Source → Limits → ℕ → Maker
-instance_events src q zero u m = fails (at u.place TooDeep) ∷ (instance_begins u.place ∷ [])
-instance_events src q (suc d) u m = module_events (instance_events src q d) src q u m
+abbrev pub instance_requests : Source → Limits → ℕ → Maker
+instance_requests src q zero u m = fails (at u.place TooDeep) ∷ (instance_begins u.place ∷ [])
+instance_requests src q (suc d) u m = module_requests (instance_requests src q d) src q u m
 
 abbrev pub top_use : Module → Use
 top_use m = record { place = m.name.place; path = []; given = []; joined = None }
 
 -- all that a source asks for, from its top down
-abbrev pub all_events : Limits → Source → Module → List Event
-all_events q src m = instance_events src q q.depth (top_use m) m
+abbrev pub all_requests : Limits → Source → Module → List Request
+all_requests q src m = instance_requests src q q.depth (top_use m) m

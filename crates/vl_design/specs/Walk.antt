@@ -1,15 +1,15 @@
 -- How far a design is built, and the faults of phase 4 (this project's own; the top by IEEE 1364-2005, 12.1.1). Building ends
 -- behind the first instance of too many, or where the expanded tokens are too many, so each text is built in bounded work.
-use Rattle.std.specs.Prelude.{ℕ, suc, ◌+◌, Bool, true, false, ◌||◌, if◌then◌else◌, nat_lt, List, [], ◌∷◌, ◌++◌, bytes_eq, Option, Some, None}
+use Rattle.std.specs.Prelude.{ℕ, suc, ◌+◌, Bool, true, false, ◌||◌, if◌then◌else◌, nat_lt, filter, List, [], ◌∷◌, ◌++◌, bytes_eq, Option, Some, None, not}
 use Rattle.std.specs.List.{list_any}
 use Rattle.vl_tree.specs.declared.fault.FaultKind.TheVariants.{DuplicateModule, NoTop, TooManyInstances, Expanded}
 use Rattle.vl_tree.specs.Syntax.{Place, Item, Items, GenerateBlock, GenerateBranches, GenerateElse, Module, Source, instances, region, generate_loop, generate_if, no_item, more_item, single, several, no_generate_branch, more_generate_branch, no_generate_else, generate_else}
 use Rattle.vl_value.specs.Paths.{Text}
 use Rattle.vl_value.specs.Order.{Found, at}
 use Rattle.vl_design.specs.Limits.{Limits}
-use Rattle.vl_design.specs.Scopes.{Scope, Event, instance_begins, expands, opens, fails, module_at, all_events}
+use Rattle.vl_design.specs.Scopes.{Scope, Request, instance_begins, expands, opens, fails, module_at, all_requests}
 
--- ---- hearing events
+-- ---- hearing requests
 
 -- what was built: how many instances and expanded tokens, whether it ended, the faults and the scopes so far, in order
 pub record Built : Type 0 where
@@ -26,8 +26,8 @@ nothing_built = record { instances = 0; tokens = 0; ended = false; faults = []; 
 abbrev pub ended_with : Found → Built → Built
 ended_with f b = record b { ended = true; faults = b.faults ++ f ∷ [] }
 
--- an event, where the top's name stands at a place
-abbrev pub built : Limits → Place → Event → Built → Built
+-- a request, where the top's name stands at a place
+abbrev pub built : Limits → Place → Request → Built → Built
 built q top (instance_begins p) b = let c : Built = record b { instances = suc b.instances } in
     if nat_lt q.instances c.instances then ended_with (at p TooManyInstances) c else c
 built q top (expands n) b = let c : Built = record b { tokens = b.tokens + n } in
@@ -35,15 +35,15 @@ built q top (expands n) b = let c : Built = record b { tokens = b.tokens + n } i
 built q top (opens s) b = record b { scopes = b.scopes ++ s ∷ [] }
 built q top (fails f) b = record b { faults = b.faults ++ f ∷ [] }
 
-abbrev pub heard : Limits → Place → Event → Built → Built
+abbrev pub heard : Limits → Place → Request → Built → Built
 heard q top e b = if b.ended then b else built q top e b
 
-abbrev pub all_heard : Limits → Place → List Event → Built → Built
+abbrev pub all_heard : Limits → Place → List Request → Built → Built
 all_heard q top [] b = b
 all_heard q top (e ∷ es) b = all_heard q top es (heard q top e b)
 
 abbrev pub build : Limits → Source → Module → Built
-build q src m = all_heard q m.name.place (all_events q src m) nothing_built
+build q src m = all_heard q m.name.place (all_requests q src m) nothing_built
 
 -- ---- the top
 
@@ -72,17 +72,20 @@ abbrev mutual
   else_instantiates x no_generate_else = false
   else_instantiates x (generate_else b) = block_instantiates x b
 
-abbrev pub is_instantiated : Source → Text → Bool
-is_instantiated src x = list_any (λ (m : Module). some_instantiates x m.items) src
-
 abbrev pub has_module : Source → Text → Bool
 has_module src x = list_any (λ (m : Module). bytes_eq m.name.text x) src
 
--- modules that no module instantiates, the first of each name
-abbrev pub roots : Source → Source → Source → List Module
-roots src before [] = []
-roots src before (m ∷ ms) = (if has_module before m.name.text || is_instantiated src m.name.text then [] else m ∷ [])
-    ++ roots src (m ∷ before) ms
+-- the first module of each name, which alone counts
+abbrev pub first_of_name : Source → Source → Source
+first_of_name before [] = []
+first_of_name before (m ∷ ms) = (if has_module before m.name.text then [] else m ∷ []) ++ first_of_name (m ∷ before) ms
+
+abbrev pub is_instantiated : Source → Module → Bool
+is_instantiated src m = list_any (λ (n : Module). some_instantiates m.name.text n.items) src
+
+-- those that none of them instantiates
+abbrev pub roots : Source → List Module
+roots src = filter (λ m. not (is_instantiated src m)) src
 
 abbrev pub only_one : List Module → Option Module
 only_one (m ∷ []) = Some m
@@ -91,7 +94,7 @@ only_one _ = None
 -- the module that is asked for, or the one root
 abbrev pub top_of : Source → Option Text → Option Module
 top_of src (Some x) = module_at src x
-top_of src None = only_one (roots src [] src)
+top_of src None = only_one (roots (first_of_name [] src))
 
 -- ---- faults of phase 4
 
