@@ -83,7 +83,7 @@ fn reuse_one<R: Wait + Copy>(give: &mut RuledGive<R>) -> Option<u64>
 }
 
 // A channel from which all was taken is closed: no token is left, and of those that were handed back the one that wasn't
-// reused.
+// reused is handed over.
 #[test]
 fn an_empty_channel_is_closed(rt: HostRuntime) -> Result<(), Fail> {
     let alloc = rt.alloc();
@@ -98,16 +98,16 @@ fn an_empty_channel_is_closed(rt: HostRuntime) -> Result<(), Fail> {
     assert!(rt; return_one(&mut take, alloc, 8));
     assert!(rt; !return_one(&mut take, alloc, 9));
     assert_eq!(rt; reuse_one(&mut give), Some(7));
-    let (oldest, waiting) = pairs.close(alloc, give, take)?;
-    assert!(rt; oldest.is_none());
-    assert_eq!(rt; waiting.len(), 1);
-    assert_eq!(rt; waiting[0].cycle, 8);
+    let mut used = Vec::with_capacity(alloc, 2)?;
+    assert!(rt; pairs.close(give, take, &mut used).is_none());
+    assert_eq!(rt; used.len(), 1);
+    assert_eq!(rt; used[0].cycle, 8);
     assert_eq!(rt; pairs.sent(), 0);
     Ok(())
 }
 
-// A channel that holds two tokens is closed: the oldest comes, with the blank that wasn't reused, and the one that was
-// given counts as sent.
+// A channel that holds two tokens is closed: the oldest comes, the blank that wasn't reused stands behind what was
+// there before, and the token that was given counts as sent.
 #[test]
 fn a_full_channel_is_closed(rt: HostRuntime) -> Result<(), Fail> {
     let alloc = rt.alloc();
@@ -116,9 +116,13 @@ fn a_full_channel_is_closed(rt: HostRuntime) -> Result<(), Fail> {
     let mut pairs = Ruled::new(rt);
     let (mut give, take) = pairs.pair::<Brand>(alloc, 0, 2, bare(alloc, 0), blanks)?;
     assert!(rt; give_next(&mut give, alloc, 1));
-    let (oldest, waiting) = pairs.close(alloc, give, take)?;
+    let mut used = Vec::with_capacity(alloc, 3)?;
+    used.push(bare(alloc, 5))?;
+    let oldest = pairs.close(give, take, &mut used);
     assert_eq!(rt; oldest.map(|token| token.cycle), Some(0));
-    assert_eq!(rt; waiting.len(), 1);
+    assert_eq!(rt; used.len(), 2);
+    assert_eq!(rt; used[0].cycle, 5);
+    assert_eq!(rt; used[1].cycle, 0);
     assert_eq!(rt; pairs.sent(), 1);
     Ok(())
 }
@@ -134,8 +138,8 @@ fn wide_tokens(rt: HostRuntime) -> Result<(), Fail> {
 #[test]
 fn a_million_tokens(rt: HostRuntime) -> Result<(), Fail> {
     let pauses = Pauses {
-        giver: 1_009,
-        taker: 743,
+        giver: 10_007,
+        taker: 7_411,
     };
     assert_eq!(rt;
         between_threads(&rt, rt.alloc(), 1_000_000, &pauses)?,

@@ -1,6 +1,6 @@
 -- What the two passes of a channel tell, each with the other end's in it.
-use Rattle.std.proofs.Common.{◌≡◌, Option, Some, None, MatchOption, ℕ, List, length, ◌++◌, ◌≤◌, sym, ap, subst, ◌∙◌, arith}
-use Rattle.std.proofs.lemmas.List.{append_cancel_left}
+use Rattle.std.proofs.Common.{◌≡◌, Option, Some, None, MatchOption, ℕ, List, length, ◌++◌, ◌+◌, ◌≤◌, sym, ap, subst, ◌∙◌, arith}
+use Rattle.std.proofs.lemmas.List.{append_cancel_left, length-append}
 use Rattle.crossbeam_queue.specs.Fifo.{Held}
 use Rattle.named_run.specs.Named.{token_of}
 use Rattle.named_run.specs.declared.token.Token.{Token}
@@ -70,3 +70,11 @@ ends_again g t h u a b is was s = record {
 -- all returned tokens are as few as were held
 pub all_few : (g : Giver) (t : Taker) (waiting : List Token) → ReturnsStand g t → g.reused ++ waiting ≡ t.returned → length waiting ≤ g.name.depth
 all_few g t waiting s e = subst (λ (l : List Token). length l ≤ g.name.depth) (append_cancel_left g.reused s.waiting waiting (s.in_order ∙ sym e)) s.room
+
+-- there is room for as many as wait
+pub room_for : (g : Giver) (t : Taker) (w : ReturnView) (len cap : ℕ) → w.reused ≡ g.reused → w.returned ≡ t.returned → ReturnsStand g t
+    → len + g.name.depth ≤ cap → len + length w.returned ≤ cap + length w.reused
+room_for g t w len cap reused returned s room =
+    let all = sym (length-append g.reused s.waiting) ∙ ap (λ (l : List Token). length l) s.in_order in let few = s.room in
+    let a = ap (λ (l : List Token). length l) reused in let b = ap (λ (l : List Token). length l) returned in
+    omega (arith, all, few, a, b, room)

@@ -166,9 +166,12 @@ abbrev pub OldestIs : Giver → Taker → Option Token → Type 0
 OldestIs g t None = t.taken ≡ g.given
 OldestIs g t (Some x) = (t.taken < g.given) × (x ≡ next_taken t)
 
--- what a closed channel leaves: its oldest token, and all that were returned and wait to be reused, each of its shape
-pub record IsClosed (g : Giver) (t : Taker) (first : Option Token) (waiting : List Token) : Type 0 where
+-- what a closed channel leaves: its oldest token; and behind those that were there before, all that were returned and
+-- wait to be reused, in order, each of its shape
+pub record IsClosed (g : Giver) (t : Taker) (first : Option Token) (before used : List Token) : Type 0 where
   pub oldest : OldestIs g t first
+  pub waiting : List Token
+  pub behind : used ≡ before ++ waiting
   pub all : g.reused ++ waiting ≡ t.returned
   pub few : length waiting ≤ g.name.depth
   pub shaped : All (HasShape g.name.run g.name.channel) waiting

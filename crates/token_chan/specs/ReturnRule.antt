@@ -1,7 +1,7 @@
 -- The rule of a channel's queue of returned tokens, which leads back from the taker to the giver: it holds, in order,
 -- the tokens that the taker has returned and the giver hasn't reused yet, at most as many as the channel's depth, and
 -- each has the channel's shape. What values they have is free: they are to be filled anew. This project's own.
-use Rattle.std.specs.Prelude.{◌≡◌, ℕ, ◌+◌, ◌<◌, ◌≤◌, true, false, List, [], ◌∷◌, ◌++◌, length}
+use Rattle.std.specs.Prelude.{◌≡◌, ℕ, ◌+◌, ◌<◌, ◌≤◌, true, false, List, [], ◌∷◌, ◌++◌, length, All}
 use mathlib.Core.Option.{some}
 use lib.ListN.{get_elem?}
 use Rattle.named_run.specs.Named.{HasShape}
@@ -68,6 +68,13 @@ pub record IsFilled (x : Name) (blanks : List Token) (v : ReturnView) : Type 0 w
   pub name : v.name ≡ x
   pub reused : v.reused ≡ []
   pub returned : v.returned ≡ blanks
+
+-- a pass that knew v has reused these tokens since, as w knows, and they stand behind those that were there before
+pub record AreMoved (v w : ReturnView) (before now : List Token) : Type 0 where
+  pub moved : List Token
+  pub behind : now ≡ before ++ moved
+  pub reused : v.reused ++ moved ≡ w.reused
+  pub shaped : All (HasShape v.name.run v.name.channel) moved
 
 -- ---- the rule
 

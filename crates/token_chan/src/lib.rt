@@ -2,7 +2,7 @@
 //!
 //! A channel carries a token for each cycle, in order: what the taker reads of the giver's registers. It is a queue of
 //! tokens under a rule, and a queue on the way back for those that the taker returns once it has read them: the giver
-//! fills them anew. So no call on an end takes memory; `Pairs::pair`, `ruled_pair` and `close` alone do.
+//! fills them anew. So `Pairs::pair` and `ruled_pair` alone take memory: no call on an end does, nor `close`.
 //!
 //! Below: `named_run`, the run that contracts name; the kit's `crossbeam_queue`. Above: what runs partitions on
 //! threads, which knows channels by the traits of `ends` and `pairs` alone.
@@ -11,8 +11,8 @@
 //! back those that are returned and not reused, in order, at most as many, each of the channel's shape
 //! (`specs/ReturnRule`): these are the rules of the queues, so no order of steps breaks them. The state of an end has
 //! its own counts, and how far it knows the other's (`specs/Ends`): what it knows of, it is answered. `catch_up` says
-//! how both stand, and `close` gives all that wait to be reused. Not said: that a refused call made its own attempt,
-//! or that any call returns; calls on ruled ends may wait behind another thread.
+//! how both stand; `close` gives the oldest token, and hands over all that wait to be reused. Not said: that a refused
+//! call made its own attempt, or that any call returns; calls on ruled ends may wait behind another thread.
 #![tactic(auto)]
 
 pub mod ends;

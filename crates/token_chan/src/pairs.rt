@@ -1,6 +1,6 @@
 //! What makes channels.
 
-ghost use Rattle.std.specs.Prelude.{◌≡◌, ◌+◌, ◌≤◌, ℕ, min, All, IfOk, length};
+ghost use Rattle.std.specs.Prelude.{◌≡◌, ◌+◌, ◌≤◌, ℕ, min, All, IfOk, length, vec_len, vec_capacity};
 ghost use Rattle.named_run.specs.Named.{HasShape, token_of};
 ghost use Rattle.token_chan.specs.Names.{name_of};
 ghost use Rattle.token_chan.specs.Ends.{Giver, Taker, AreEnds, AreNewEnds, giver_caught_up, taker_caught_up};
@@ -50,17 +50,15 @@ pub trait Pairs: Send {
         ensures tokens { TokensStand (Self.Give.GiveEnd.state give.old) (Self.Take.TakeEnd.state take.old) }
         ensures returns { ReturnsStand (Self.Give.GiveEnd.state give.old) (Self.Take.TakeEnd.state take.old) };
 
-    /// The oldest token of the channel, and all that were returned and wait to be reused. What the giver has given is
-    /// counted as sent.
-    fn close(
-        &mut self,
-        alloc: Global,
-        give: Self::Give,
-        take: Self::Take,
-    ) -> Result<(Option<Token>, Vec<Token>), NoMemory>
-        requires { AreEnds (Self.Give.GiveEnd.state give) (Self.Take.TakeEnd.state take) }
-        ensures tokens { IfOk result (λ r.
-            IsClosed (Self.Give.GiveEnd.state give) (Self.Take.TakeEnd.state take) r.0 r.1.items) }
+    /// The oldest token of the channel; those after it are dropped. All that were returned and wait to be reused are
+    /// appended to `used`, which has room for as many as the channel's depth. What the giver has given is counted as
+    /// sent.
+    fn close(&mut self, give: Self::Give, take: Self::Take, used: &mut Vec<Token>) -> Option<Token>
+        requires ends { AreEnds (Self.Give.GiveEnd.state give) (Self.Take.TakeEnd.state take) }
+        requires room { vec_len used.old + (Self.Give.GiveEnd.state give).name.depth ≤ vec_capacity used.old }
+        ensures tokens { IsClosed (Self.Give.GiveEnd.state give) (Self.Take.TakeEnd.state take) result
+            used.old.items used.new.items }
+        ensures room { vec_capacity used.old ≤ vec_capacity used.new }
         ensures sent { sent self.new ≡ min (sent self.old + (Self.Give.GiveEnd.state give).sent) last_count };
 
     /// How many tokens were sent over the channels that were closed.

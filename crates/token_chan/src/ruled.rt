@@ -1,8 +1,8 @@
 //! Channels over queues under a rule: what their ends do, and what makes them.
 
-ghost use Rattle.std.specs.Prelude.{◌≡◌, ◌++◌, true, All, IfOk, length};
+ghost use Rattle.std.specs.Prelude.{◌≡◌, ◌+◌, ◌≤◌, true, length, vec_len, vec_capacity};
 ghost use Rattle.crossbeam_queue.specs.Passes.{view, IsPassOf};
-ghost use Rattle.named_run.specs.Named.{HasShape};
+ghost use Rattle.token_chan.specs.ReturnRule.{AreMoved};
 ghost use Rattle.token_chan.specs.Ends.{AreEnds, TokensStand, ReturnsStand};
 ghost use Rattle.token_chan.specs.RuledEnds.{giver_state, taker_state};
 
@@ -126,10 +126,10 @@ impl<R: Wait + Copy + Send + Drop> Pairs for Ruled<R> {
 
     fn close(
         &mut self,
-        alloc: Global,
         give: RuledGive<R>,
         take: RuledTake<R>,
-    ) -> Result<(Option<Token>, Vec<Token>), NoMemory> {
+        used: &mut Vec<Token>,
+    ) -> Option<Token> {
         self.sent = self.sent.saturating_add(give.sent);
         let RuledGive {
             rt,
@@ -144,14 +144,8 @@ impl<R: Wait + Copy + Send + Drop> Pairs for Ruled<R> {
         let oldest = tokens.pop_as::<TakesLast, R>(&rt, &mut pass);
         returns.absorb::<ReturnWhole>(&mut return_pass, take.return_pass);
         returns.learn_as::<ReusesLast>(&mut return_pass);
-        let waiting = waiting_returns::<R>(
-            &rt,
-            alloc,
-            &returns,
-            &mut return_pass,
-            tokens.capacity(),
-        )?;
-        Ok((oldest, waiting))
+        move_returns::<R>(&rt, &returns, &mut return_pass, used);
+        oldest
     }
 
     fn sent(&self) -> u64 {
@@ -192,25 +186,25 @@ fn share_returns<R: Wait + Copy>(give: &mut RuledGive<R>, take: &mut RuledTake<R
     drop(mem::replace(&mut take.return_pass, taker_return_pass));
 }
 
-// All tokens that the queue of returned ones holds, by the one pass that reuses and hands back.
-fn waiting_returns<R: Wait>(
+// Appends to `used` all tokens that the queue of returned ones holds, by the one pass that reuses and hands back.
+fn move_returns<R: Wait>(
     rt: &R,
-    alloc: Global,
     returns: &ReturnQueue,
     pass: &mut Pass<Token, ReturnView>,
-    most: usize,
-) -> Result<Vec<Token>, NoMemory>
+    used: &mut Vec<Token>,
+)
     requires pass { IsPassOf returns.now pass.old }
     requires both { ((view pass.old).reuses ≡ true) × ((view pass.old).hands_back ≡ true) }
-    ensures all { IfOk result (λ ts. (view pass.old).reused ++ ts.items ≡ (view pass.old).returned) }
-    ensures shaped { IfOk result (λ ts.
-        All (HasShape (view pass.old).name.run (view pass.old).name.channel) ts.items) }
+    requires room { vec_len used.old + length (view pass.old).returned
+        ≤ vec_capacity used.old + length (view pass.old).reused }
+    ensures moved { AreMoved (view pass.old) (view pass.new) used.old.items used.new.items }
+    ensures all { (view pass.new).reused ≡ (view pass.old).returned }
+    ensures room { vec_capacity used.old ≤ vec_capacity used.new }
 {
-    let mut tokens = Vec::with_capacity(alloc, most)?;
     while let Some(token) = returns.pop_as::<ReusesLast, R>(rt, pass) {
-        if tokens.push(token).is_err() {
-            return Err(NoMemory);
+        match used.push(token) {
+            Ok(()) => {}
+            Err(_) => unreachable!(),
         }
     }
-    Ok(tokens)
 }
