@@ -5,3 +5,4 @@ pub mod Keeps
 pub mod Steps
 pub mod Seated
 pub mod Laws
+pub mod Allowed

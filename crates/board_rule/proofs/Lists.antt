@@ -1,6 +1,6 @@
 -- Lists of what seats have.
 use Rattle.std.proofs.Common.{◌≡◌, ◌≢◌, ◌⊎◌, ℕ, zero, suc, List, [], ◌∷◌, ◌++◌}
-use Rattle.std.proofs.Common.{length, map, set, refl, sym, ap, ◌∙◌, inl, inr, ⊎_elim}
+use Rattle.std.proofs.Common.{length, map, set, get_or, refl, sym, ap, ◌∙◌, inl, inr, ⊎_elim}
 use mathlib.Core.Option.{some, some-injective, some-ne-none}
 use lib.ListN.{get_elem?}
 use Rattle.board_rule.specs.Rule.{Each, Apart}
@@ -67,3 +67,9 @@ pub set_at : {A : Type 0} (l : List A) (i : ℕ) (a b : A) → get_elem? l i ≡
 set_at [] i a b e = absurd (some-ne-none a (sym e))
 set_at (x ∷ xs) zero a b e = refl
 set_at (x ∷ xs) (suc i) a b e = set_at xs i a b e
+
+-- what stands at a place, put there again
+pub set_again : {A : Type 0} (xs : List A) (k : ℕ) (d : A) → set xs k (get_or xs k d) ≡ xs
+set_again [] k d = refl
+set_again (x ∷ xs) zero d = refl
+set_again {A} (x ∷ xs) (suc k) d = ap (λ (ys : List A). x ∷ ys) (set_again xs k d)

@@ -3,3 +3,4 @@ pub mod Events
 pub mod Rule
 pub mod Plays
 pub mod Laws
+pub mod Allowed

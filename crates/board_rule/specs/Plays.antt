@@ -145,6 +145,8 @@ abbrev pub lag_raises : Step ℕ → Me ℕ View → ℕ → Me ℕ View → Typ
 lag_raises s me found now = Moves (by_laggers lag_raise me.0.laggers) (with_laggers raised_lagger me.0) me now
 
 -- ---- the start: the run is named
+-- By a seat that has all posts, before any is split off. It is no event, and makes no word another; no other step names a
+-- run.
 
 -- the step's view, and what is known then
 abbrev pub Becomes : View → Me ℕ View → Me ℕ View → Type 0

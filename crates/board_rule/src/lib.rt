@@ -9,15 +9,19 @@
 //! the run that contracts name; the kit's `atomic_table`. Above: `gang_board`, whose calls make these steps.
 //! Promise: `board_law`, over every state of the table: each of the six calls is one event of the network on the posts
 //! of the whole board, allowed where it is made, and seats that are split and joined leave the posts; so all that holds
-//! of posts holds between any two steps (`specs/Laws`). `gang_board`'s calls rest on these laws.
+//! of posts holds between any two steps (`specs/Laws`). `event_law` and `allowed_law` tie these events to those of the
+//! network: what they make of posts, and where they are allowed (`specs/Allowed`). `gang_board`'s calls rest on these
+//! laws.
 #![tactic(auto)]
 
 ghost use Rattle.std.specs.Prelude.{◌≡◌, ℕ};
 ghost use Rattle.atomic_table.specs.Table.{State};
-ghost use Rattle.token_net.specs.Shape.{Shape};
+ghost use Rattle.token_net.specs.Shape.{Shape, Run};
 ghost use Rattle.token_net.specs.Network.{Config, Event, after};
+ghost use Rattle.token_net.specs.Holds.{Holds};
 ghost use Rattle.board_rule.specs.Views.{Named};
 ghost use Rattle.board_rule.specs.Events.{posts_after};
+ghost use Rattle.board_rule.specs.Allowed.{AllowedLaws};
 ghost use Rattle.board_rule.specs.Laws.{BoardLaws};
 ghost use Rattle.board_rule.specs.declared.view.View.{View};
 
@@ -36,4 +40,12 @@ pub fn board_law()
 /// partition's state and the type `V` of a token's values.
 pub fn event_law<S, V>()
     ensures { (n : Shape S V) (c : Config S V) (e : Event) → (after n c e).posts ≡ posts_after e c.posts }
+{}
+
+/// Posts allow an event exactly where the network enables it, but for what a partition alone knows: for every network,
+/// run and configuration in which all holds (`raises`, `halts`, `reports`, `lag_raises`, `sees`, `sees_fire`). A look
+/// that posts allow is such an event, or leaves all posts, or is one of a leader that no longer runs (`looks`,
+/// `fire_looks`).
+pub fn allowed_law<S, V>()
+    ensures { (n : Shape S V) (r : Run S V) (c : Config S V) → Holds n r c → AllowedLaws n r c }
 {}

@@ -1,8 +1,9 @@
 -- A lagger's post that was joined to the carrier, and parted off again once the carrier has looked.
-use Rattle.std.proofs.Common.{◌≡◌, ◌≢◌, ℕ, zero, suc, ◌+◌, ◌*◌, ◌<◌, ◌≤◌, List, [], ◌∷◌, ◌++◌, map, length, get_or, refl, sym, ap, ◌∙◌, subst, ⊎_elim, arith}
+use Rattle.std.proofs.Common.{◌≡◌, ◌≢◌, ℕ, zero, suc, ◌+◌, ◌*◌, ◌<◌, ◌≤◌, List, [], ◌∷◌, ◌++◌, map, length, get_or, false, refl, sym, ap, ◌∙◌, subst, ⊎_elim, arith}
 use Rattle.std.specs.List.{range_with_len}
 use Rattle.std.proofs.lemmas.Bool.{cases_eq}
 use Rattle.std.proofs.lemmas.List.{length-replicate, length-append}
+use Rattle.std.proofs.lemmas.List.FromFn.{get_or-map-range_with_len}
 use Rattle.std.proofs.lemmas.Grind.{merely}
 use Rattle.atomic_table.specs.Table.{Me, Splits}
 use Rattle.atomic_table.specs.declared.shared.Seat.{Seat}
@@ -13,8 +14,8 @@ use Rattle.board_rule.specs.Rule.{Each, Ruled}
 use Rattle.board_rule.specs.Plays.{both, without_lagger, lagger_alone, lagger_view}
 use Rattle.gang_board.specs.Seats.{lagger_looks_of, IsLaggerSeat}
 use Rattle.gang_board.specs.Sights.{sight_of}
-use Rattle.gang_board.specs.PostStates.{leader}
-use Rattle.gang_board.specs.CatchUp.{IsCarrier, all_present, caught_leader, caught_lagger, Looked, AllLooked, LaggerLooked, LaggerCaughtUp, LeaderCaughtUp, AreLeaders, seen_of}
+use Rattle.gang_board.specs.PostStates.{leader, lagger}
+use Rattle.gang_board.specs.CatchUp.{AreAllPosts, IsCarrier, all_present, caught_leader, caught_lagger, Looked, AllLooked, LaggerLooked, LaggerCaughtUp, LeaderCaughtUp, AreLeaders, CaughtUp, seen_of}
 use Rattle.gang_board.specs.declared.seen.Seen.{Seen}
 use Rattle.board_rule.specs.declared.view.View.{View}
 use Rattle.gang_board.specs.declared.board.Board.{Board}
@@ -228,3 +229,36 @@ pub laggers_again : (m n : Named) (c : Posts) (first second : List LagPost) → 
     → ((k : ℕ) (d : LagPost) → k < length first → LaggerCaughtUp m c (get_or first k d) (get_or second k d))
     → (k : ℕ) (d : LagPost) → k < length first → LaggerCaughtUp n c (get_or first k d) (get_or second k d)
 laggers_again m n c first second e h k d l = subst (λ (o : Named). LaggerCaughtUp o c (get_or first k d) (get_or second k d)) e (h k d l)
+
+-- what a lagger that has caught up has seen of a leader is what there is to see of it
+pub caught_seen : (b : Board) (n : Named) (c : Posts) (old new : List LeaderPost) (first second : List LagPost) → AreAllPosts b n old first
+    → ((k : ℕ) (d : LeaderPost) → k < length old → LeaderCaughtUp c (get_or old k d) (get_or new k d))
+    → ((k : ℕ) (d : LagPost) → k < length first → LaggerCaughtUp n c (get_or first k d) (get_or second k d))
+    → (q p : ℕ) (d : LagPost) (e : LeaderPost) → q < n.parts → p < n.parts
+    → sight (lagger (get_or second q d)) p ≡ present (leader (get_or new p e))
+caught_seen b n c old new first second all leaders laggers q p d e lq lp =
+    let here : q < length first = (let k = all.lagger_count in omega (arith, k, lq)) in
+    let there : p < length old = (let k = all.leader_count in omega (arith, k, lp)) in
+    ap (λ (y : Lagger). sight y p) (laggers q d here).0.post
+    ∙ get_or-map-range_with_len (λ (k : ℕ). present (c.leader k)) 0 n.parts p p (record { at = 0; halted = false }) lp (omega arith)
+    ∙ ap (λ (k : ℕ). present (c.leader k)) (sym (all.leaders p e there).number)
+    ∙ ap present (sym (leaders p e there).1)
+
+-- all posts that have looked have caught up
+pub caught_up : (b : Board) (n : Named) (word : ℕ) (c0 c1 : Seat ℕ View) (old given new : List LeaderPost) (first second : List LagPost) → AreAllPosts b n old first
+    → given ≡ old → c0.me.0.named ≡ n → AllLooked word c0 c1 given new first second → CaughtUp n word old new first second
+caught_up b n word c0 c1 old given new first second all same named h =
+    let posts : Posts = h.looked.posts in
+    let leaders : (k : ℕ) (d : LeaderPost) → k < length old → LeaderCaughtUp posts (get_or old k d) (get_or new k d) =
+    subst (λ (xs : List LeaderPost). (k : ℕ) (d : LeaderPost) → k < length xs → LeaderCaughtUp posts (get_or xs k d) (get_or new k d)) same h.leaders in
+    let laggers = laggers_again c0.me.0.named n posts first second named h.laggers in
+    record {
+      posts = posts;
+      holds = subst (λ (m : Named). PostsHold (course m) posts) named h.looked.holds;
+      fire = h.looked.fire;
+      leader_count = h.size ∙ ap (λ (xs : List LeaderPost). length xs) same;
+      lagger_count = h.lagger_size;
+      leaders = leaders;
+      laggers = laggers;
+      seen = caught_seen b n posts old new first second all leaders laggers;
+    }

@@ -3,10 +3,9 @@ use Rattle.std.proofs.Common.{◌≡◌, ℕ, ◌+◌, ◌%◌, ◌^◌, ◌<◌
 use Rattle.std.proofs.lemmas.Grind.{merely}
 use Rattle.std.proofs.lemmas.List.{get_or-set_same}
 use Rattle.atomic_table.specs.Table.{Me, Step, Allows}
-use Rattle.token_net.specs.Posts.{Sight, Leader, Lagger, Posts, PostsHold, MayRaise, MayHalt, MayReport, HasSeenFar, present, sight, with_sight, most_rows}
+use Rattle.token_net.specs.Posts.{Sight, Leader, Lagger, PostsHold, MayRaise, MayHalt, MayReport, HasSeenFar, present, sight, with_sight, most_rows}
 use Rattle.token_net.specs.Network.{Event, raise, halt, fire, see, lag_raise, see_fire}
 use Rattle.board_rule.specs.Views.{HeldLeader, HeldLagger, course}
-use Rattle.board_rule.specs.Events.{posts_after}
 use Rattle.board_rule.specs.Rule.{Each, Ruled, fire_word, leader_word, lagger_word}
 use Rattle.board_rule.specs.Plays.{Stood, Happened, by_leaders, by_laggers, posts_view, with_leaders, with_laggers, leader_view, lagger_view, raises, halts, reports, sees_fire, FindsLeader, sees_leader, lag_raises, number_at, sight_in}
 use Rattle.board_rule.specs.Plays.{raised_leader, halted_leader, reported_leader, saw_fire, saw_leader, raised_lagger}

@@ -3,7 +3,7 @@ use Rattle.std.specs.Prelude.{◌≡◌, ℕ, ◌+◌, ◌<◌, ◌≤◌, Optio
 use Rattle.std.specs.Prelude.{slice_index_or}
 use Rattle.std.specs.List.{range_with_len}
 use Rattle.atomic_table.specs.declared.shared.Seat.{Seat}
-use Rattle.token_net.specs.Posts.{Sight, Posts, PostsHold, present}
+use Rattle.token_net.specs.Posts.{Sight, Posts, PostsHold, present, sight}
 use Rattle.board_rule.specs.Views.{Named, HeldLeader, HeldLagger, course, rested_leader, rested_lagger}
 use Rattle.board_rule.specs.Rule.{Each}
 use Rattle.gang_board.specs.Seats.{IsBoardOf}
@@ -67,10 +67,15 @@ pub record CaughtUp (n : Named) (word : ℕ) (old new : List LeaderPost) (first 
   pub posts : Posts
   pub holds : PostsHold (course n) posts
   pub fire : posts.fire ≡ word
+  pub leader_count : length new ≡ length old
+  pub lagger_count : length second ≡ length first
   pub leaders : (k : ℕ) (d : LeaderPost) → k < length old
       → LeaderCaughtUp posts (slice_index_or old k d) (slice_index_or new k d)
   pub laggers : (k : ℕ) (d : LagPost) → k < length first
       → LaggerCaughtUp n posts (slice_index_or first k d) (slice_index_or second k d)
+  -- what each lagger has seen of each leader is that leader's position and halt
+  pub seen : (q p : ℕ) (d : LagPost) (e : LeaderPost) → q < n.parts → p < n.parts
+      → sight (lagger (slice_index_or second q d)) p ≡ present (leader (slice_index_or new p e))
 
 -- the answer tells the fire word of that moment
 abbrev pub CatchesUp : Named → Option ℕ → List LeaderPost → List LeaderPost → List LagPost → List LagPost → Type 0

@@ -1,5 +1,6 @@
 -- The runs of the tests. This project's own.
-use Rattle.std.specs.Prelude.{◌≡◌, ℕ, ◌++◌, true, false, List, [], ◌∷◌, map, replicate, Some, None}
+use Rattle.std.specs.Prelude.{◌≡◌, ℕ, ◌<◌, ◌++◌, true, false, List, [], ◌∷◌, map, replicate, length, Some, None}
+use Rattle.std.specs.Prelude.{slice_index_or}
 use Rattle.std.specs.List.{range_with_len}
 use Rattle.netlist.specs.Design.{Flat}
 use Rattle.netlist.specs.declared.design.RegisterPart.{RegisterPart}
@@ -10,9 +11,10 @@ use Rattle.netlist.specs.declared.node.Operation.TheVariants as operation
 use Rattle.named_run.specs.Named.{RunData, no_flat}
 use Rattle.token_net.specs.Posts.{none_yet}
 use Rattle.board_rule.specs.Views.{Named}
-use Rattle.gang_board.specs.PostStates.{leader_named, IsLeaderOf}
+use Rattle.gang_board.specs.PostStates.{leader_named, IsLeaderOf, lagger_named}
 use Rattle.gang_board.specs.declared.board.Board.{Board}
 use Rattle.gang_board.specs.declared.posts.LeaderPost.{LeaderPost}
+use Rattle.gang_board.specs.declared.posts.LagPost.{LagPost}
 
 -- nine rows, a leader that owns no assertion, and a channel that carries no register
 abbrev pub quiet : RunData
@@ -82,6 +84,10 @@ pub record IsGoing (b : Board) (number at : ℕ) (p : LeaderPost) : Type 0 where
   pub position : p.position ≡ at
   pub halted : p.halted ≡ false
   pub reported : p.reported ≡ false
+
+-- these laggers' posts are of the board of the tests
+abbrev pub AreFollowing : List LagPost → Type 0
+AreFollowing posts = (k : ℕ) (d : LagPost) → k < length posts → lagger_named (slice_index_or posts k d) ≡ failing_named
 
 -- a design with sixteen registers of 32 bits, each of which is 0 and stays so, and one channel that carries them all
 abbrev pub sixteen : List RegisterPart

@@ -6,7 +6,7 @@ ghost use Rattle.token_net.specs.Posts.{none_yet};
 ghost use Rattle.gang_board.specs.PostStates.{leader, leader_named, IsLeaderOf};
 ghost use Rattle.thread_tests.specs.Runs.{one_fires};
 
-use crate::leaders_and_laggers::{FAILURE, LAG, run_to_end};
+use crate::leaders_and_laggers::{FAILURE, LAG, have_seen_halts, run_to_end};
 use gang_board::board::Board;
 use gang_board::posts::LeaderPost;
 use std::marker::Brand;
@@ -93,12 +93,13 @@ fn a_leader_halts_after_a_fire(rt: HostRuntime) -> Result<(), Fail> {
 }
 
 // Sixteen leaders go on to the failure, report it, see it and halt, while sixteen laggers stay the lag behind. Then all
-// posts are brought up to date.
+// posts are brought up to date: each lagger has seen each leader halted there.
 #[test]
 fn sixteen_leaders_and_laggers(rt: HostRuntime) -> Result<(), Fail> {
     let (board, mut leaders, mut laggers) = Board::new::<Brand>(rt.alloc(), 16, 8, 0, 0)?;
     let fire = run_to_end(&rt, &board, &mut leaders, &mut laggers);
     assert_eq!(rt; fire, Some(FAILURE));
+    assert!(rt; have_seen_halts(&laggers, FAILURE));
     for post in &leaders {
         assert_eq!(rt; post.position(), FAILURE);
         assert!(rt; post.has_reported());

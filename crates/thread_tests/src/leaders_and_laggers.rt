@@ -5,7 +5,7 @@ ghost use Rattle.token_net.specs.Posts.{sight};
 ghost use Rattle.gang_board.specs.PostStates.{lagger, lagger_named};
 ghost use Rattle.gang_board.specs.Begins.{AreNewLeaders, AreNewLaggers, IsNewLeader, IsNewLagger};
 ghost use Rattle.gang_board.specs.CatchUp.{IsLeaderAt, IsLaggerAt, AreLeaders, AreLaggers};
-ghost use Rattle.thread_tests.specs.Runs.{failing_named, IsGoing};
+ghost use Rattle.thread_tests.specs.Runs.{failing_named, IsGoing, AreFollowing};
 
 use gang_board::board::Board;
 use gang_board::posts::{LagPost, LeaderPost};
@@ -151,7 +151,33 @@ pub fn run_to_end<R: Threads + Wait + Sync>(
 ) -> Option<u64>
     requires leaders { AreNewLeaders board.now failing_named 0 16 leaders.old }
     requires laggers { AreNewLaggers board.now failing_named 0 0 16 laggers.old }
+    ensures { AreFollowing laggers.new }
 {
     run_all(rt, board, leaders, laggers);
     board.catch_up(leaders, laggers)
+}
+
+// Whether a lagger has seen each leader at this position, halted.
+fn has_seen_halts(post: &LagPost, position: u64) -> bool
+    requires { lagger_named post.now ≡ failing_named }
+{
+    for number in 0..MANY {
+        let seen = post.seen(number);
+        if seen.position != position || !seen.halted {
+            return false;
+        }
+    }
+    true
+}
+
+/// Whether each lagger has seen each leader at this position, halted.
+pub fn have_seen_halts(laggers: &[LagPost], position: u64) -> bool
+    requires { AreFollowing laggers.now }
+{
+    for number in 0..laggers.len() {
+        if !has_seen_halts(&laggers[number], position) {
+            return false;
+        }
+    }
+    true
 }

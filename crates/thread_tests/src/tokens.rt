@@ -100,6 +100,15 @@ fn pause(count: u64, every: u64) {
     }
 }
 
+// Lets other threads run, once in so many tries. Where other work waits for the processors, a thread that gives up its
+// turn at each try would stand behind all of it for every few tokens.
+fn rest(tries: &mut u32) {
+    *tries = tries.wrapping_add(1);
+    if *tries % 1_024 == 0 {
+        thread::yield_now();
+    }
+}
+
 // A blank, once there is one.
 fn wait_for_blank<R: Wait + Copy>(rt: &R, give: &mut RuledGive<R>) -> Token
     requires { (giver_state give.old).name ≡ record { run = quiet; channel = 0; depth = 4 } }
@@ -107,11 +116,12 @@ fn wait_for_blank<R: Wait + Copy>(rt: &R, give: &mut RuledGive<R>) -> Token
     ensures name { (giver_state give.new).name ≡ (giver_state give.old).name }
     ensures given { (giver_state give.new).given ≡ (giver_state give.old).given }
 {
+    let mut tries = 0;
     for _ in rt.forever() {
         if let Some(token) = give.blank() {
             return token;
         }
-        thread::yield_now();
+        rest(&mut tries);
     }
     unreachable!()
 }
@@ -123,12 +133,13 @@ fn wait_to_give<R: Wait + Copy>(rt: &R, give: &mut RuledGive<R>, token: Token)
     ensures given { (giver_state give.new).given ≡ (giver_state give.old).given + 1 }
 {
     let mut held = token;
+    let mut tries = 0;
     for _ in rt.forever() {
         match give.give(held) {
             Ok(()) => return,
             Err(token) => held = token,
         }
-        thread::yield_now();
+        rest(&mut tries);
     }
     unreachable!()
 }
@@ -151,9 +162,10 @@ fn take_all<R: Wait + Copy>(rt: &R, take: &mut RuledTake<R>, count: u64, every: 
     requires { (taker_state take.old).name ≡ record { run = quiet; channel = 0; depth = 4 } }
 {
     let mut next = 0;
+    let mut tries = 0;
     for _ in rt.forever() {
         let Some(token) = take.take() else {
-            thread::yield_now();
+            rest(&mut tries);
             continue;
         };
         if token.cycle != next || take.hand_back(token).is_err() || next == count {
