@@ -1,5 +1,5 @@
 -- Fast steps have the values of calculations.
-use Rattle.std.proofs.Common.{inl, inr, ◌≡◌, ℕ, ◌+◌, ◌*◌, ◌^◌, ◌<◌, ◌≤◌, Bool, true, false, not, ◌==◌, List, refl, sym, ap, ◌∙◌, subst, arith, lit<, bit_and, bit_or, zero, suc, ◌-◌}
+use Rattle.std.proofs.Common.{inl, inr, ◌≡◌, ℕ, ◌+◌, ◌*◌, ◌^◌, ◌<◌, ◌≤◌, Bool, true, false, not, ◌==◌, List, refl, sym, ap, ◌∙◌, subst, arith, lit<, bit_and, bit_or, zero, suc, ◌-◌, ◌&&◌, ◌||◌}
 use Rattle.std.specs.Prelude.{pos, slice_index, bit_xor, if◌then◌else◌}
 use Rattle.std.proofs.Math.Nat.{pow-le-pow_right, div-one, mod-one}
 use Rattle.std.proofs.lemmas.Bool.{le-leb, leb-true, eq-eqb, ne_eqb, cases_eq}
@@ -130,6 +130,53 @@ differ_quick w signed x y t s l e f same is = record {
   kind = is_narrow_kind w l;
   value = λ words slots n m h b. is slots.narrow (small slots t.left x e b.0)
       ∙ both slots t.left t.right x y (λ p q. ops.bit (not (p == q))) e f b.0 b.1;
+}
+
+-- ---- conditions of one bit
+
+one_and : (p q : ℕ) → p < 2 → q < 2 → bit_and p q ≡ ops.bit (ops.holds p && ops.holds q)
+one_and zero zero l m = refl
+one_and zero (suc zero) l m = refl
+one_and (suc zero) zero l m = refl
+one_and (suc zero) (suc zero) l m = refl
+one_and (suc (suc p)) q l m = absurd (omega arith)
+one_and zero (suc (suc q)) l m = absurd (omega arith)
+one_and (suc zero) (suc (suc q)) l m = absurd (omega arith)
+
+one_or : (p q : ℕ) → p < 2 → q < 2 → bit_or p q ≡ ops.bit (ops.holds p || ops.holds q)
+one_or zero zero l m = refl
+one_or zero (suc zero) l m = refl
+one_or (suc zero) zero l m = refl
+one_or (suc zero) (suc zero) l m = refl
+one_or (suc (suc p)) q l m = absurd (omega arith)
+one_or zero (suc (suc q)) l m = absurd (omega arith)
+one_or (suc zero) (suc (suc q)) l m = absurd (omega arith)
+
+-- an operand of one bit is 0 or 1
+one_bit : (slots : Slots) (k : ℕ) (x : Operand) → Has x k → IsBounded slots x → x.width ≡ 1
+    → operand_value slots x < 2
+one_bit slots k x e b single =
+    subst (λ v. operand_value slots x < 2 ^ v) single
+    (subst (λ n. n < 2 ^ x.width) (operand_is slots k x e b) (below slots k x e b))
+
+pub both_quick : (w : ℕ) (signed : Bool) (x y : Operand) (t : Two) → w ≤ 64 → Has x t.left → Has y t.right
+    → x.width ≡ 1 → y.width ≡ 1 → IsQuick w (calc.Binary op.LogicAnd signed x y) (kind.And t)
+both_quick w signed x y t l e f i j = record {
+  fits = λ n m h. (narrow_fits n m t.left x e h.0, narrow_fits n m t.right y f h.1);
+  kind = is_narrow_kind w l;
+  value = λ words slots n m h b. both slots t.left t.right x y (λ p q. bit_and p q) e f b.0 b.1
+      ∙ one_and (operand_value slots x) (operand_value slots y) (one_bit slots t.left x e b.0 i)
+      (one_bit slots t.right y f b.1 j);
+}
+
+pub either_quick : (w : ℕ) (signed : Bool) (x y : Operand) (t : Two) → w ≤ 64 → Has x t.left → Has y t.right
+    → x.width ≡ 1 → y.width ≡ 1 → IsQuick w (calc.Binary op.LogicOr signed x y) (kind.Or t)
+either_quick w signed x y t l e f i j = record {
+  fits = λ n m h. (narrow_fits n m t.left x e h.0, narrow_fits n m t.right y f h.1);
+  kind = is_narrow_kind w l;
+  value = λ words slots n m h b. both slots t.left t.right x y (λ p q. bit_or p q) e f b.0 b.1
+      ∙ one_or (operand_value slots x) (operand_value slots y) (one_bit slots t.left x e b.0 i)
+      (one_bit slots t.right y f b.1 j);
 }
 
 -- ---- operators on one

@@ -6,6 +6,8 @@ pub mod InOrder
 pub mod OfPieces
 pub mod GivenSlots
 pub mod Nodes
+pub mod Sames
+pub mod BesideOnes
 pub mod Whole
 pub mod Shapes
 pub mod Fast

@@ -74,20 +74,12 @@ bits_node f front d k w r slot fits h =
     (operation_number f front w (o.Bits r)) fits.0
     (λ c. ap (λ v. ops.select (pos r.low) v (slice_index c.values.signals r.signal)) fits.0) h
 
-pub kept_node : (f : Flat) (front : Front) (d : Draft) (k w a b : ℕ) (slot : Slot)
-    → OperationFits f.signals f.memories (take k f.nodes) w (o.Keep a b)
-    → Stands f front d slot (width_at f.nodes a) (node_number f front a)
-    → Stands f front d slot w (operation_number f front w (o.Keep a b))
-kept_node f front d k w a b slot fits h =
-    stands_for f front d slot (width_at f.nodes a) w (node_number f front a) (operation_number f front w (o.Keep a b))
-    (read_width f.nodes k a (λ v. v ≡ w) fits.0) (λ c. refl) h
-
 -- a node of the design has a width
 pub node_wide : (f : Flat) (x : Node) → IsNodeOf f x → IsWidth x.width
 node_wide f x h = (node_fits f h.0 h.1.0 x h.1.1).0
 
 -- what its operation is fits
-fits_as : (f : Flat) (x : Node) (op : Operation) → IsNodeOf f x → x.operation ≡ op
+pub fits_as : (f : Flat) (x : Node) (op : Operation) → IsNodeOf f x → x.operation ≡ op
     → (k : ℕ) × OperationFits f.signals f.memories (take k f.nodes) x.width op
 fits_as f x op h e = (
   h.1.0,
@@ -107,16 +99,6 @@ bits_lowered f front d x r slot h e stand =
     let fits = fits_as f x (o.Bits r) h e in
     subst (λ y. IfSome slot (λ s. Stands f front d s x.width (operation_number f front x.width y))) (sym e)
     (IfSome_then slot stand (λ s p. bits_node f front d fits.0 x.width r s fits.1 p))
-
-pub kept_lowered : (f : Flat) (front : Front) (d : Draft) (slots : List (Option Slot)) (x : Node) (a b : ℕ)
-    (slot : Option Slot) → IsNodeOf f x → x.operation ≡ o.Keep a b → NodesStand f front d slots
-    → slot ≡ slice_index_or slots a None
-    → IfSome slot (λ s. Stands f front d s x.width (operation_number f front x.width x.operation))
-kept_lowered f front d slots x a b slot h e nodes is =
-    let fits = fits_as f x (o.Keep a b) h e in
-    subst (λ y. IfSome slot (λ s. Stands f front d s x.width (operation_number f front x.width y))) (sym e)
-    (if_some slot (λ s. Stands f front d s x.width (operation_number f front x.width (o.Keep a b)))
-    (λ s q. kept_node f front d fits.0 x.width a b s fits.1 (nodes a s (sym is ∙ q))))
 
 -- ---- one node after another
 

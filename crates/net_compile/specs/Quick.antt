@@ -1,8 +1,7 @@
--- Fast steps and slots in place of calculations. This project's own.
+-- Fast steps in place of calculations. This project's own.
 use Rattle.std.specs.Prelude.{◌≡◌, ℕ, ◌^◌, ◌<◌, List}
 use Rattle.step_program.specs.Values.{Slots, slot_value, is_narrow, is_narrow_width, step_value, calculation_value}
-use Rattle.step_program.specs.Fits.{IsSlot, is_narrow_slot, CalculationFits, StepFits}
-use Rattle.step_program.specs.declared.step.Slot.{Slot}
+use Rattle.step_program.specs.Fits.{is_narrow_slot, CalculationFits, StepFits}
 use Rattle.step_program.specs.declared.step.Operand.{Operand}
 use Rattle.step_program.specs.declared.step.Calculation.{Calculation}
 use Rattle.step_program.specs.declared.step.Calculation.TheVariants as calc
@@ -32,10 +31,3 @@ pub record IsQuick (w : ℕ) (r : Calculation) (step : Step) : Type 0 where
   pub kind : is_narrow step ≡ is_narrow_width w
   pub value : (words : List (List ℕ)) (slots : Slots) (n m : ℕ) → CalculationFits n m w r → AreBounded slots r
       → step_value words slots step ≡ calculation_value words slots w r
-
--- the slot has it already
-pub record IsAlias (w : ℕ) (r : Calculation) (slot : Slot) : Type 0 where
-  pub placed : (n m : ℕ) → CalculationFits n m w r → IsSlot n m slot
-  pub kind : (slots : Slots) → AreBounded slots r → is_narrow_slot slot ≡ is_narrow_width w
-  pub value : (words : List (List ℕ)) (slots : Slots) (n m : ℕ) → CalculationFits n m w r → AreBounded slots r
-      → slot_value slots slot ≡ calculation_value words slots w r

@@ -6,7 +6,7 @@
 //! once the program has run over given slots that hold the numbers of the state and the row (`specs/Compiles`). A
 //! driven part has its node's value, so a signal's is put together from slots.
 //! How: nodes are made to steps in the order of the driven parts that they read, so that a part which is read stands in
-//! a slot. Bits of a signal are its pieces, side by side: bits of nodes, of given slots, or bits that stay. A
+//! a slot. A node that has the value of another one has its slot. Bits of a signal are its pieces, side by side: bits of nodes, of given slots, or bits that stay. A
 //! calculation at up to 64 bits is a fast step where there is one, else an operation of `bit_ops`.
 //! Not said: how long a call takes; that memory is enough. `compile` also says that memory is out where a node would
 //! come before one that it reads, which no order of the driven parts does: that is tested, and not proved.
@@ -20,10 +20,12 @@ pub mod compiled;
 mod layout;
 mod leaf;
 mod lower;
+mod ones;
 mod operand;
 mod pieces;
 mod quick;
 mod ranges;
+mod same;
 mod shape;
 mod turns;
 

@@ -8,8 +8,10 @@ ghost use Rattle.net_compile.specs.Stands as stands;
 
 use crate::layout::Layout;
 use crate::leaf::bits;
+use crate::ones::with_ones;
 use crate::operand::{calculation, constant_place, operand, slot_of};
 use crate::quick::step_of;
+use crate::same::same_as;
 use crate::shape::cut;
 use dt_core::fault::NoMemory;
 use netlist::design::Index;
@@ -40,7 +42,10 @@ fn calculated(
 {
     fits_law();
     match calculation(flat, slots, node) {
-        Some(calculation) => Ok(Some(builder.push(step_of(node.width, calculation))?)),
+        Some(own) => {
+            let calculation = with_ones(builder, node.width, own)?;
+            Ok(Some(builder.push(step_of(node.width, calculation))?))
+        }
         None => Ok(None),
     }
 }
@@ -92,9 +97,11 @@ fn lowered(
         builder.new slot node.width
         (stands.operation_number flat.now (pieces.front_of layout.now.given) node.width node.operation))) }
 {
+    if let Some(other) = same_as(flat, node) {
+        return Ok(slot_of(slots, other));
+    }
     match node.operation {
         Operation::Bits { range } => Ok(bits(flat, layout, slots, builder, range)?),
-        Operation::Keep { of, .. } => Ok(slot_of(slots, of)),
         Operation::Select { of, place } => Ok(selected(
             flat, layout, slots, builder, node, of, place,
         )?),

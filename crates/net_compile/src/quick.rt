@@ -3,6 +3,7 @@
 ghost use Rattle.std.specs.Prelude.{◌≡◌, ◌≤◌, false, IfSome};
 ghost use Rattle.step_program.specs.Fits.{IsWidth};
 ghost use Rattle.bit_ops.specs.declared.operator.Unary.TheVariants as one;
+ghost use Rattle.bit_ops.specs.declared.operator.Binary.TheVariants as op;
 ghost use Rattle.step_program.specs.declared.step.Calculation.TheVariants as calc;
 ghost use Rattle.step_program.specs.declared.step.Slot.TheVariants as at;
 ghost use Rattle.net_compile.specs.Quick.{IsQuick};
@@ -51,8 +52,40 @@ fn quick_binary(
         Binary::Add => Some(Step::Sum(Sum::modulo(two.left, two.right, width))),
         Binary::Eq => Some(Step::Test(Test::same(two.left, two.right))),
         Binary::Ne => Some(Step::Test(Test::differ(two.left, two.right))),
+        Binary::LogicAnd => quick_both(width, signed, left, right, two),
+        Binary::LogicOr => quick_either(width, signed, left, right, two),
         _ => None,
     }
+}
+
+// The fast step of `&&` on two operands of one bit.
+fn quick_both(width: u32, signed: bool, left: Operand, right: Operand, two: Two) -> Option<Step>
+    requires width { (1 ≤ width) × (width ≤ 64) }
+    requires slots { (left.slot ≡ at.Narrow two.left) × (right.slot ≡ at.Narrow two.right) }
+    ensures { IfSome result (λ s. IsQuick width (calc.Binary op.LogicAnd signed left right) s) }
+{
+    if left.width != 1 {
+        return None;
+    }
+    if right.width != 1 {
+        return None;
+    }
+    Some(Step::And(two))
+}
+
+// The fast step of `||` on two operands of one bit.
+fn quick_either(width: u32, signed: bool, left: Operand, right: Operand, two: Two) -> Option<Step>
+    requires width { (1 ≤ width) × (width ≤ 64) }
+    requires slots { (left.slot ≡ at.Narrow two.left) × (right.slot ≡ at.Narrow two.right) }
+    ensures { IfSome result (λ s. IsQuick width (calc.Binary op.LogicOr signed left right) s) }
+{
+    if left.width != 1 {
+        return None;
+    }
+    if right.width != 1 {
+        return None;
+    }
+    Some(Step::Or(two))
 }
 
 // Whether a narrow slot holds 0, or whether it doesn't: the mask leaves no bit of it, and so 0, which is what it has

@@ -1,4 +1,5 @@
 use Rattle.std.proofs.Common.{subst, sym}
+use Rattle.std.specs.Prelude.{IfSome}
 use Rattle.bit_ops.specs.declared.operator.Binary.{Binary}
 use Rattle.step_program.specs.declared.step.Calculation.TheVariants as calc
 use Rattle.step_program.specs.declared.step.Step.TheVariants as kind
@@ -41,3 +42,13 @@ returns-in-Ne c =
     subst (λ (q : Binary). IsQuick c.args.width (calc.Binary q c.args.signed c.args.left c.args.right) (kind.Test c.differ.result)) (sym c.in-Ne.is)
     (differ_quick c.args.width c.args.signed c.args.left c.args.right c.in_ok-two.two c.differ.result c.requires.1 c.in_ok-two.ensures.0
     c.in_ok-two.ensures.1 c.differ.ensures.slots c.differ.ensures.value)
+
+pub returns-in-LogicAnd : goal.returns-in-LogicAnd
+returns-in-LogicAnd c =
+    subst (λ (q : Binary). IfSome c.quick_both.result (λ s. IsQuick c.args.width (calc.Binary q c.args.signed c.args.left c.args.right) s)) (sym c.in-LogicAnd.is)
+    c.quick_both.ensures
+
+pub returns-in-LogicOr : goal.returns-in-LogicOr
+returns-in-LogicOr c =
+    subst (λ (q : Binary). IfSome c.quick_either.result (λ s. IsQuick c.args.width (calc.Binary q c.args.signed c.args.left c.args.right) s)) (sym c.in-LogicOr.is)
+    c.quick_either.ensures
