@@ -13,3 +13,4 @@ pub mod Advances
 pub mod Parts
 pub mod NotingLaws
 pub mod UndoingLaws
+pub mod InTurn

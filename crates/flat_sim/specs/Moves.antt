@@ -1,5 +1,5 @@
 -- Moves of numbers between slots. This project's own.
-use Rattle.std.specs.Prelude.{◌≡◌, ℕ, ◌<◌, List, [], ◌∷◌, ◌++◌, length, map, take, slice_index, slice_index_or, slice_set}
+use Rattle.std.specs.Prelude.{◌≡◌, ℕ, ◌<◌, ◌≤◌, IsTrue, List, [], ◌∷◌, ◌++◌, length, map, take, slice_index, slice_index_or, slice_set}
 use Rattle.std.specs.List.{All}
 use Rattle.netlist.specs.Design.{Flat}
 use Rattle.netlist.specs.declared.design.RegisterPart.{RegisterPart}
@@ -27,6 +27,14 @@ abbrev pub with_moved : {T : Type 0} → List T → List Move → List T → Lis
 with_moved xs [] ns = xs
 with_moved xs (m ∷ ms) [] = xs
 with_moved xs (m ∷ ms) (n ∷ ns) = with_moved (slice_set xs m.to n) ms ns
+
+-- the slots after moves that take numbers as they stood before the first of them
+abbrev pub AreMoved : {T : Type 0} → List T → List Move → List T → Type 0
+AreMoved {T} xs ms ys = (d : T) → ys ≡ with_moved xs ms (moved d xs ms)
+
+-- each move goes from a slot above all to which one goes
+abbrev pub AreInTurn : List Move → Type 0
+AreInTurn ms = (n : ℕ) × All (λ m. m.to < n) ms × All (λ m. n ≤ m.from) ms
 
 -- ---- moves between slots
 
@@ -58,10 +66,11 @@ pub record AreMoves (to from : List Slot) (m : Moves) : Type 0 where
 
 -- ---- all at once
 
--- room for as many numbers as are moved
-abbrev pub HasRoom : Commit → Type 0
-HasRoom c = (length c.narrow_room.items ≡ length c.moves.narrow.items)
-    × (length c.wide_room.items ≡ length c.moves.wide.items)
+-- room for as many numbers as are moved; the narrow ones are in turn where it says so
+pub record CanMove (c : Commit) : Type 0 where
+  pub narrow : length c.narrow_room.items ≡ length c.moves.narrow.items
+  pub wide : length c.wide_room.items ≡ length c.moves.wide.items
+  pub turn : IsTrue c.in_turn → AreInTurn c.moves.narrow.items
 
 -- each move is between slots that are there
 abbrev pub AreThere : ℕ → List Move → Type 0
@@ -90,7 +99,7 @@ next_slots parts nodes = map (λ p. slot_at nodes p.next) parts
 -- a commit between these slots
 pub record IsCommit (to from : List Slot) (c : Commit) : Type 0 where
   pub moves : AreMoves to from c.moves
-  pub room : HasRoom c
+  pub can : CanMove c
 
 -- the numbers of the register parts
 abbrev pub register_numbers : Flat → Machine → Slots → List ℕ

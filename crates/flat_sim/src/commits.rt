@@ -1,8 +1,8 @@
 //! How the register parts take the values of their next nodes, at the end of a cycle: by moves between slots, which are
-//! listed at the start. All numbers are read before the first slot is written, since the slot of a next node may be that
-//! of a register part.
+//! listed at the start. Where the slot of a next node may be that of a register part, all numbers are read before the first
+//! slot is written.
 
-ghost use Rattle.std.specs.Prelude.{◌≡◌, ◌<◌, ◌≤◌, ◌++◌, length, map, slice_index, take, IfOk, OnOk};
+ghost use Rattle.std.specs.Prelude.{◌≡◌, ◌<◌, ◌≤◌, ◌++◌, length, map, slice_index, take, IfOk, OnOk, IsTrue};
 ghost use Rattle.std.specs.List.{All};
 ghost use Rattle.netlist.specs.Fits.{IsWellFormed};
 ghost use Rattle.step_program.specs.Plan.{held, IsReady};
@@ -32,10 +32,11 @@ pub(crate) struct Moves {
     pub(crate) wide: Vec<Move>,
 }
 
-/// Moves that are done at once, with room for the numbers on their way.
+/// Moves that are done at once: whether those of narrow slots may be done in turn, and room for the numbers on their way.
 #[derive(Drop)]
 pub(crate) struct Commit {
     pub(crate) moves: Moves,
+    pub(crate) in_turn: bool,
     pub(crate) narrow_room: Vec<u64>,
     pub(crate) wide_room: Vec<u128>,
 }
@@ -92,6 +93,51 @@ fn write<T: Copy>(moves: &[Move], room: &[T], slots: &mut [T])
     }
 }
 
+// A number above each slot to which a move goes.
+fn end_of(moves: &[Move]) -> u64
+    ensures { All (λ m. m.to < result) moves.now }
+{
+    let mut end = 0;
+    for one in moves {
+        end = end.max(u64::from(one.to) + 1);
+    }
+    end
+}
+
+// Whether each move goes from a slot above all to which one goes.
+fn are_in_turn(moves: &[Move]) -> bool
+    ensures { IsTrue result → moving.AreInTurn moves.now }
+{
+    let end = end_of(moves);
+    moves.iter().all(|one| end <= u64::from(one.from))
+}
+
+// Does moves one after another.
+fn move_in_turn<T: Copy>(moves: &[Move], slots: &mut [T])
+    requires turn { moving.AreInTurn moves.now }
+    requires there { moving.AreThere (length slots.old) moves.now }
+    ensures { moving.AreMoved slots.old moves.now slots.new }
+{
+    for one in moves {
+        slots[one.to as usize] = slots[one.from as usize];
+    }
+}
+
+// Does moves at once.
+fn move_all<T: Copy>(moves: &[Move], in_turn: bool, slots: &mut [T], room: &mut [T])
+    requires turn { IsTrue in_turn → moving.AreInTurn moves.now }
+    requires there { moving.AreThere (length slots.old) moves.now }
+    requires room { length room.old ≡ length moves.now }
+    ensures moved { moving.AreMoved slots.old moves.now slots.new }
+    ensures room { length room.new ≡ length room.old }
+{
+    if in_turn {
+        return move_in_turn(moves, slots);
+    }
+    read(moves, slots, room);
+    write(moves, room, slots);
+}
+
 // The slots of the next nodes.
 fn next_slots(
     alloc: Global,
@@ -122,10 +168,12 @@ impl Commit {
     {
         let from = next_slots(alloc, parts, nodes)?;
         let moves = Moves::between(alloc, to, &from)?;
+        let in_turn = are_in_turn(&moves.narrow);
         let narrow_room = vec![in alloc; 0u64; moves.narrow.len()]?;
         let wide_room = vec![in alloc; 0u128; moves.wide.len()]?;
         Ok(Commit {
             moves,
+            in_turn,
             narrow_room,
             wide_room,
         })
@@ -133,16 +181,24 @@ impl Commit {
 
     // Does all moves at once.
     fn run(&mut self, slots: &mut SlotValues)
-        requires room { moving.HasRoom self.old }
+        requires can { moving.CanMove self.old }
         requires there { moving.IsThere (held slots.old) self.old }
         ensures slots { held slots.new ≡ moving.after_moves self.old.moves (held slots.old) }
         ensures moves { self.new.moves ≡ self.old.moves }
-        ensures room { moving.HasRoom self.new }
+        ensures can { moving.CanMove self.new }
     {
-        read(&self.moves.narrow, &slots.narrow, &mut self.narrow_room);
-        read(&self.moves.wide, &slots.wide, &mut self.wide_room);
-        write(&self.moves.narrow, &self.narrow_room, &mut slots.narrow);
-        write(&self.moves.wide, &self.wide_room, &mut slots.wide);
+        move_all(
+            &self.moves.narrow,
+            self.in_turn,
+            &mut slots.narrow,
+            &mut self.narrow_room,
+        );
+        move_all(
+            &self.moves.wide,
+            false,
+            &mut slots.wide,
+            &mut self.wide_room,
+        );
     }
 }
 
