@@ -1,6 +1,6 @@
 -- The table of digits, and values at the head of bytes.
-use Rattle.std.proofs.Common.{◌≡◌, ℕ, zero, suc, ◌+◌, ◌/◌, ◌^◌, inl, inr, ◌<◌, ◌≤◌, Bool, true, false, if◌then◌else◌, List, [], ◌∷◌, ◌++◌, length, take, drop, get_or, Some, None, refl, sym, ap, ◌∙◌, subst, arith}
-use Rattle.std.specs.Prelude.{nat_le, ◌==◌, ◌&&◌, not}
+use Rattle.std.proofs.Common.{◌≡◌, ℕ, zero, suc, ◌+◌, ◌/◌, ◌^◌, inl, inr, ◌<◌, ◌≤◌, Bool, true, false, if◌then◌else◌, List, [], ◌∷◌, ◌++◌, length, take, drop, get_or, Some, None, refl, sym, ap, ◌∙◌, subst, arith, lit<}
+use Rattle.std.specs.Prelude.{nat_le, nat_lt, ◌==◌, ◌&&◌, not}
 use Rattle.std.specs.List.{list_all, onto_first}
 use Rattle.std.specs.Char.{is_ascii_hexdigit, digit_value}
 use Rattle.std.proofs.lemmas.Bool.Decides.{nat_tests}
@@ -12,7 +12,8 @@ use Rattle.std.specs.Prelude.{All}
 use Rattle.stimulus.specs.declared.refusal.RefusalKind.TheVariants as k
 use Rattle.stimulus.specs.Stimulus.{words, is_number, number_of, value_fault}
 use Rattle.std.specs.Prelude.{nat_eq}
-use Rattle.std.proofs.lemmas.Bool.{cases_lt, le-leb}
+use Rattle.std.proofs.lemmas.Bool.{cases_lt, le-leb, lt-leb}
+use Rattle.std.proofs.Math.Nat.{pow-le-pow_right}
 use Rattle.std.proofs.lemmas.Nat.{pow_below, pow_pos, div_below, le-div}
 use Rattle.stimulus.specs.Calls.Digits.{digit_code, Known}
 
@@ -152,3 +153,15 @@ shift_large false value n w e h = shifted_large value (2 ^ w) (value / 2 ^ w) (p
 pub known_small : (over : Bool) (value n w : ℕ) → Known over value n → w ≤ 128 → nat_le (2 ^ w) n ≡ false → value ≡ n
 known_small true value n w h few e = absurd (let t = le-leb (2 ^ w) n (omega (arith, h.1, pow_most w few)) in cc)
 known_small false value n w h few e = sym h
+
+-- the same of numbers of 64 bits at most
+pub few_large : (value w : ℕ) → not (nat_eq (value / 2 ^ w) 0) ≡ nat_le (2 ^ w) value
+few_large value w = shifted_large value (2 ^ w) (value / 2 ^ w) (pow_pos w) refl
+
+not_less : (w : ℕ) → 64 ≤ w → nat_lt w 64 ≡ false
+not_less w m = grind (arith, nat_tests)
+
+pub few_small : (value w : ℕ) → value < 2 ^ 64 → 64 ≤ w → nat_lt w 64 ≡ nat_le (2 ^ w) value
+few_small value w l m =
+    let wide : 2 ^ 64 ≤ 2 ^ w = pow-le-pow_right (lit< tt) m in
+    not_less w m ∙ sym (lt-leb (2 ^ w) value (omega (arith, l, wide)))

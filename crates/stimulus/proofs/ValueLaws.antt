@@ -80,3 +80,31 @@ led_all widths line place values rest all same led =
 
 pub wrong_count : (widths line : List ℕ) (n : ℕ) → n ≡ length (values_of line) → (n == length widths) ≡ false → row_fault widths (values_of line) ≡ Some k.WrongCount
 wrong_count widths line n e h = ap (λ m. if m == length widths then bad_value widths (values_of line) else Some k.WrongCount) (sym e) ∙ ap (λ b. if b then bad_value widths (values_of line) else Some k.WrongCount) h
+
+-- ---- rows of which the count of values isn't known at first
+
+-- so many values were passed, and this is left of the line
+pub record Passed (line : List ℕ) (place : ℕ) (rest : Option (Bor (List ℕ))) : Type 0 where
+  pub done : List (List ℕ)
+  pub split : values_of line ≡ done ++ words_in rest
+  pub size : length done ≡ place
+
+pub passed_none : (line : List ℕ) (rest : Option (Bor (List ℕ))) → words_in rest ≡ values_of line → Passed line 0 rest
+passed_none line rest e = record { done = []; split = sym e; size = refl }
+
+pub passed_on : (line : List ℕ) (place : ℕ) (rest after : Option (Bor (List ℕ))) (value : List ℕ) → Passed line place rest
+    → words_in rest ≡ value ∷ words_in after → Passed line (place + 1) after
+passed_on line place rest after value p next = record {
+  done = p.done ++ value ∷ [];
+  split = p.split ∙ ap (λ ws. p.done ++ ws) next ∙ sym (append_assoc p.done (value ∷ []) (words_in after));
+  size = length_push p.done value ∙ ap (λ n. n + 1) p.size;
+}
+
+pub all_passed : (widths line : List ℕ) (place : ℕ) (values : List ℕ) (rest : Option (Bor (List ℕ))) → place ≡ length widths
+    → words_in rest ≡ [] → length values ≡ length widths → Passed line place rest
+    → (length (values_of line) ≡ length widths → Led widths line place values rest)
+    → (row_fault widths (values_of line) ≡ None) × (values ≡ map number_of (values_of line))
+all_passed widths line place values rest all none same p led =
+    let left : length (words_in rest) ≡ 0 = ap length none in
+    led_all widths line place values rest (omega (arith, all)) same
+    (led (omega (arith, all, left, p.size, ap length p.split, length-append p.done (words_in rest))))

@@ -1,7 +1,7 @@
 //! Hexadecimal digits and the values of a row.
 
-ghost use Rattle.std.specs.Prelude.{◌≡◌, ◌+◌, ◌*◌, ◌^◌, ◌<◌, ◌≤◌, ℕ, length, nat_le, nat_lt};
-ghost use Rattle.stimulus.specs.Calls.Digits.{EndsPiece, IsDigitRun, IsNumber, IsRun, ReadsValue};
+ghost use Rattle.std.specs.Prelude.{◌≡◌, ◌+◌, ◌*◌, ◌^◌, ◌<◌, ◌≤◌, ℕ, length, nat_le, nat_lt, IfSome, IsTrue, Ok};
+ghost use Rattle.stimulus.specs.Calls.Digits.{EndsPiece, IsDigitRun, IsNumber, IsRun, IsShortRun, ReadsValue};
 ghost use Rattle.stimulus.specs.Calls.Digits.{ReadsValues, digit_code, is_space, words_in};
 ghost use Rattle.stimulus.specs.Stimulus.{values_of, words};
 ghost use Rattle.std.specs.List.{All, count_by};
@@ -44,6 +44,16 @@ pub(crate) struct Run {
     number: Number,
 }
 
+// The least number of 64 bits that has no room for a further digit.
+const FEW: u64 = 1 << 60;
+
+/// The same where the number has 64 bits at most.
+#[derive(Clone, Copy)]
+pub(crate) struct Few {
+    count: usize,
+    value: u64,
+}
+
 // The value of a hexadecimal digit, or 255.
 fn digit_of(byte: u8) -> u8
     ensures { result ≡ digit_code byte }
@@ -77,6 +87,14 @@ impl Number {
     {
         self.over || (width < MAX_WIDTH && self.value >> width != 0)
     }
+}
+
+// Whether a number is 2^width or more.
+fn has_more_bits(value: u64, width: u32) -> bool
+    requires { width ≤ MAX_WIDTH }
+    ensures { result ≡ nat_le (2 ^ width) value }
+{
+    width < 64 && value >> width != 0
 }
 
 impl Run {
@@ -172,8 +190,8 @@ fn some_line(line: &[u8]) -> Option<&[u8]>
     if line.is_empty() { None } else { Some(line) }
 }
 
-/// Reads the values of a row, in order of their places: one for each width, or the fault.
-pub(crate) fn read_values(
+// The values of a row, in order of their places: one for each width, or the fault.
+fn read_each(
     line: &[u8],
     widths: &[u32],
     values: &mut [u128],
@@ -200,4 +218,83 @@ pub(crate) fn read_values(
         }
     }
     Ok(())
+}
+
+/// Reads the values of a row, in order of their places: one for each width, or the fault.
+pub(crate) fn read_values(
+    line: &[u8],
+    widths: &[u32],
+    values: &mut [u128],
+) -> Result<(), RefusalKind>
+    requires size { length values.old ≡ length widths.now }
+    requires widths { All (λ w. w ≤ MAX_WIDTH) widths.now }
+    ensures size { length values.new ≡ length values.old }
+    ensures reads { ReadsValues widths.now line.now values.new result }
+{
+    if read_short(line, widths, values) {
+        return Ok(());
+    }
+    read_each(line, widths, values)
+}
+
+// Reads the values of a row that are all of few digits and have no fault; false where they aren't, or where one has.
+fn read_short(line: &[u8], widths: &[u32], values: &mut [u128]) -> bool
+    requires size { length values.old ≡ length widths.now }
+    requires widths { All (λ w. w ≤ MAX_WIDTH) widths.now }
+    ensures size { length values.new ≡ length values.old }
+    ensures reads { IsTrue result → ReadsValues widths.now line.now values.new (Ok tt) }
+{
+    let mut rest = some_line(line);
+    for (place, width) in widths.iter().enumerate() {
+        match rest {
+            None => return false,
+            Some(bytes) => match read_few(bytes, *width) {
+                Some((number, after)) => {
+                    values[place] = u128::from(number);
+                    rest = after;
+                }
+                None => return false,
+            },
+        }
+    }
+    rest.is_none()
+}
+
+// The value of this width at the head of the bytes, where it has few digits and no fault, and what is left after it.
+fn read_few(bytes: &[u8], width: u32) -> Option<(u64, Option<&[u8]>)>
+    requires { width ≤ MAX_WIDTH }
+    ensures { IfSome result (λ r. ReadsValue width bytes.now (Ok (r.0, r.1))) }
+{
+    let few = few_digits(bytes);
+    if few.count == 0 {
+        return None;
+    }
+    if has_more_bits(few.value, width) {
+        return None;
+    }
+    match after_digits(bytes, few.count) {
+        Ok(rest) => Some((few.value, rest)),
+        Err(_) => None,
+    }
+}
+
+// The digits at the head of the bytes, and their number; none where it has more than 60 bits.
+fn few_digits(bytes: &[u8]) -> Few
+    ensures { 0 < result.count → IsShortRun bytes.now result }
+{
+    let mut value: u64 = 0;
+    for (i, byte) in bytes.iter().enumerate() {
+        let digit = digit_of(*byte);
+        if digit > 15 {
+            return Few { count: i, value };
+        }
+        if value >= FEW {
+            return Few { count: 0, value: 0 };
+        }
+        value = value * 16 + u64::from(digit);
+    }
+    Few {
+        count: bytes.len(),
+        value,
+    }
 }

@@ -7,6 +7,7 @@ use Rattle.stimulus.specs.declared.refusal.RefusalKind.{RefusalKind}
 use Rattle.stimulus.specs.declared.refusal.RefusalKind.TheVariants as k
 use Rattle.stimulus.specs.declared.digits.Number.{Number}
 use Rattle.stimulus.specs.declared.digits.Run.{Run}
+use Rattle.stimulus.specs.declared.digits.Few.{Few}
 use Rattle.stimulus.specs.Stimulus.{words, is_number, number_of, value_fault, row_fault, values_of}
 
 -- the value of a byte that is a hexadecimal digit, and 255 for any other
@@ -31,6 +32,11 @@ pub record IsDigitRun (bytes : List ℕ) (n : ℕ) : Type 0 where
 pub record IsRun (bytes : List ℕ) (run : Run) : Type 0 where
   pub digits : IsDigitRun bytes run.count
   pub number : IsNumber run.number (number_of (take run.count bytes))
+
+-- the same, where the number has 64 bits at most
+pub record IsShortRun (bytes : List ℕ) (few : Few) : Type 0 where
+  pub digits : IsDigitRun bytes few.count
+  pub number : number_of (take few.count bytes) ≡ few.value
 
 abbrev pub is_space : ℕ → Bool
 is_space b = b == 32

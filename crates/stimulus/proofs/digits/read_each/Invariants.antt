@@ -1,7 +1,7 @@
 -- So many values were read, and have no fault.
 use Rattle.std.proofs.Common.{◌≡◌, length}
 use Rattle.stimulus.proofs.ValueLaws.{Led}
-use Rattle.stimulus.proofs.digits.read_values.Given as goal
+use Rattle.stimulus.proofs.digits.read_each.Given as goal
 
 abbrev pub invariant-loop-place : goal.invariant-loop-place
 invariant-loop-place l = record {

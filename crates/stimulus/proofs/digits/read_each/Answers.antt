@@ -2,7 +2,7 @@ use Rattle.std.proofs.Common.{◌∙◌, ap, arith}
 use Rattle.std.proofs.lemmas.List.{length-set}
 use Rattle.stimulus.specs.Calls.Digits.{words_in}
 use Rattle.stimulus.proofs.ValueLaws.{led_on}
-use Rattle.stimulus.proofs.digits.read_values.Goals as goal
+use Rattle.stimulus.proofs.digits.read_each.Goals as goal
 
 pub loop-place-preserved : goal.loop-place-preserved
 loop-place-preserved c =
