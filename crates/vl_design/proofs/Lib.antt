@@ -1,4 +1,5 @@
 mod Build
+pub mod HeardLaws
 mod HierarchyExamples
 mod NameExamples
 mod ObjectExamples
