@@ -3,3 +3,5 @@ pub mod HeardLaws
 mod HierarchyExamples
 mod NameExamples
 mod ObjectExamples
+pub mod OwnTokens
+pub mod TokenLaws
