@@ -5,7 +5,7 @@
 //! scopes, resolves its names and makes the numbered design.
 //! In order of reading: `specs/Constants`, `Spans` and `Parameters` (constants while a design is built, ranges, what an
 //! instance gives), `Declarations` (what a scope declares), `Generate` and `Scopes` (turns, branches and instances, as a list of
-//! events), `Walk` (how far they are heard, the top, the faults of phase 4), `Objects` (one object of two declarations,
+//! requests), `Walk` (how far they are heard, the top, the faults of phase 4), `Objects` (one object of two declarations,
 //! names in sight), `LoopVariables`, `Clocks`, `ObjectFaults` (the faults of phase 5), `Design` (the least fault, or the
 //! design).
 #![tactic(auto)]
