@@ -191,11 +191,7 @@ fn some_line(line: &[u8]) -> Option<&[u8]>
 }
 
 // The values of a row, in order of their places: one for each width, or the fault.
-fn read_each(
-    line: &[u8],
-    widths: &[u32],
-    values: &mut [u128],
-) -> Result<(), RefusalKind>
+fn read_each(line: &[u8], widths: &[u32], values: &mut [u128]) -> Result<(), RefusalKind>
     requires size { length values.old ≡ length widths.now }
     requires widths { All (λ w. w ≤ MAX_WIDTH) widths.now }
     ensures size { length values.new ≡ length values.old }
