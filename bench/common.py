@@ -10,8 +10,9 @@ PROGRAM = os.path.join(TOP, "crates", "dessert_cli", "out", "dessert_cli")
 COUNTER = os.path.join(TOP, "examples", "cnt.v")
 
 
-def built_of_rattle(folder, name, below):
-    """Builds NAME.rattle by `rt run` in a copy of the crates below it, so that nothing of it stands in the repository's crates."""
+def built_of_rattle(folder, name, below, proofs=None):
+    """Builds NAME.rattle by `rt run` in a copy of the crates below it, so that nothing of it stands in the repository's crates.
+    `proofs` are files of its own proofs, by their paths."""
     with open(os.path.join(TOP, "crates.txt")) as file:
         entries = [entry for entry in file if entry.split(":")[0] in below]
     with open(os.path.join(folder, "crates.txt"), "w") as file:
@@ -22,6 +23,10 @@ def built_of_rattle(folder, name, below):
     crate = os.path.join(folder, "crates", name + "_bench")
     os.makedirs(os.path.join(crate, "src"))
     shutil.copy(os.path.join(BENCH, name + ".rattle"), os.path.join(crate, "src", "main.rt"))
+    for path, text in (proofs or {}).items():
+        os.makedirs(os.path.dirname(os.path.join(crate, "proofs", path)), exist_ok=True)
+        with open(os.path.join(crate, "proofs", path), "w") as file:
+            file.write(text)
     done = subprocess.run(["rt", "run"], cwd=crate, stdout=subprocess.DEVNULL, stderr=subprocess.PIPE, text=True)
     if done.returncode:
         raise SystemExit("%s.rattle can't be built:\n%s" % (name, done.stderr))
