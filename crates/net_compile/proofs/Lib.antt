@@ -2,6 +2,7 @@ pub mod Numbers
 pub mod Fitting
 pub mod Standing
 pub mod Calculations
+pub mod Numerals
 pub mod InOrder
 pub mod OfPieces
 pub mod GivenSlots

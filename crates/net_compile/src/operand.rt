@@ -1,6 +1,6 @@
 //! Nodes as calculations on slots.
 
-ghost use Rattle.std.specs.Prelude.{◌≡◌, slice_index_or, None, IfSome};
+ghost use Rattle.std.specs.Prelude.{◌≡◌, ◌≤◌, true, slice_index_or, None, IfSome, IsTrue};
 ghost use Rattle.net_compile.specs.Lowered as lowered;
 
 use netlist::design::{Index, Memory};
@@ -54,17 +54,26 @@ fn least_index(memories: &[Memory], memory: u32) -> u32
     }
 }
 
+// Whether no number up to 128 at a width is below 0.
+fn is_plain(width: u32, signed: bool) -> bool
+    ensures { IsTrue result → signed ≡ true → 9 ≤ width }
+{
+    !signed || 9 <= width
+}
+
 // The number that a node is, if it is one of at most 128 and isn't below 0.
 fn numeral(node: Node, signed: bool) -> Option<u32>
     ensures { IfSome result (λ k. lowered.IsNumeral node signed k) }
 {
     match node.operation {
         Operation::Constant { value } => {
-            if value <= 128 && 9 <= node.width {
-                Some(value as u32)
-            } else {
-                None
+            if value > 128 {
+                return None;
             }
+            if !is_plain(node.width, signed) {
+                return None;
+            }
+            Some(value as u32)
         }
         _ => None,
     }

@@ -1,9 +1,10 @@
 use Rattle.std.proofs.Common.{arith}
-use Rattle.net_compile.proofs.Calculations.{same_integer}
+use Rattle.net_compile.proofs.Numerals.{known_integer}
 use Rattle.net_compile.proofs.operand.numeral.Goals as goal
 
-pub returns-then-node-ge9 : goal.returns-then-node-ge9
-returns-then-node-ge9 c = (
+pub returns-else-not-is_plain : goal.returns-else-not-is_plain
+returns-else-not-is_plain c = (
   c.in-Constant.is,
-  same_integer c.args.signed c.args.node.width c.in-Constant.value (omega arith) (omega arith),
+  known_integer c.args.signed c.args.node.width c.in-Constant.value (omega arith)
+      (c.is_plain.ensures c.if-not-is_plain.false),
 )
