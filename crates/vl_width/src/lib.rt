@@ -18,4 +18,4 @@ pub mod place;
 pub mod shape;
 pub mod size;
 pub mod term;
-mod walk;
+pub mod walk;

@@ -119,8 +119,8 @@ pub fn alike(operator: Binary, a: Bits, b: Bits, signed: bool) -> Bits
     Bits::of(a.width(), binary(operator, a, b, signed).value())
 }
 
-// A value shifted by a distance.
-fn shifted(operator: Binary, a: Bits, distance: Bits, signed: bool) -> Bits
+/// A value shifted by a distance; what is no shift does nothing.
+pub fn shifted(operator: Binary, a: Bits, distance: Bits, signed: bool) -> Bits
     ensures width { result.width ≡ a.width }
     ensures value { result.value ≡ shift_at operator signed a.width a.value distance.value }
 {
