@@ -1,6 +1,6 @@
 mod Early
 pub mod Numbers
-mod Settled
+pub mod Settled
 mod Tables
 mod TermViews
 pub mod Views
