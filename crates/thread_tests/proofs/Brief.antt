@@ -1,6 +1,6 @@
 -- The short runs of the tests: one of two leaders fires in the first cycle; and in the last cycle of the quiet run a
 -- board may begin.
-use Rattle.std.proofs.Common.{◌≡◌, ℕ, zero, suc, ◌<◌, true, false, [], refl, arith}
+use Rattle.std.proofs.Common.{◌≡◌, ℕ, zero, suc, ◌<◌, true, [], refl, arith}
 use Rattle.std.specs.Prelude.{slice_index_or}
 use Rattle.named_run.specs.Named.{fires, values_after, state_after}
 use Rattle.named_run.proofs.RunLaws.{none_owned}

@@ -1,17 +1,17 @@
 -- The failing run of the tests: in its first thousand cycles nothing fires, and then each leader's assertion does.
-use Rattle.std.proofs.Common.{◌≡◌, ℕ, ◌+◌, ◌-◌, ◌<◌, Bool, true, false, List, [], ◌∷◌, ◌++◌, replicate, length, get_or, nat_lt, refl, sym, ap, ◌∙◌, subst, arith}
+use Rattle.std.proofs.Common.{◌≡◌, ℕ, ◌+◌, ◌-◌, ◌<◌, Bool, true, false, List, [], ◌∷◌, replicate, nat_lt, refl, sym, ap, ◌∙◌, subst, arith}
 use Rattle.std.specs.Prelude.{slice_index_or, if◌then◌else◌}
 use Rattle.std.specs.List.{list_any}
 use Rattle.std.proofs.lemmas.Bool.{cases_lt}
 use Rattle.std.proofs.lemmas.List.{length-append, length-replicate, get_or-replicate, get_or_append_left, get_or_push}
-use Rattle.netlist.specs.Run.{Fired, flat_fired}
+use Rattle.netlist.specs.Run.{flat_fired}
 use Rattle.netlist.specs.Order.{flat_val}
-use Rattle.named_run.specs.Named.{RunData, end_of, state_after, values_after, has, fires}
+use Rattle.named_run.specs.Named.{end_of, state_after, values_after, has, fires}
 use mathlib.Core.Logic.{∥∥₁_elim}
 use native.Mathlib.Bridge.{le_prop}
-use Rattle.std.proofs.Common.{true≢false, ⊎_elim, ◌⊎◌, ◌≤◌}
+use Rattle.std.proofs.Common.{true≢false, ⊎_elim, ◌≤◌}
 use Rattle.atomic_table.specs.Table.{Me}
-use Rattle.token_net.specs.Posts.{Leader, Posts, PostsHold, IsFire, LeaderRuns, MayRaise, none_yet}
+use Rattle.token_net.specs.Posts.{Leader, PostsHold, IsFire, MayRaise, none_yet}
 use Rattle.board_rule.specs.Views.{Named, course}
 use Rattle.board_rule.specs.declared.view.View.{View}
 use Rattle.gang_board.specs.Begins.{Begins}

@@ -1,9 +1,9 @@
 -- The idle run of the tests: its number of rows, and that nothing fires.
-use Rattle.std.proofs.Common.{◌≡◌, ℕ, ◌+◌, ◌-◌, ◌<◌, ◌≤◌, false, List, [], length, refl, sym, ap, ◌∙◌, subst, arith}
+use Rattle.std.proofs.Common.{◌≡◌, ℕ, ◌+◌, ◌<◌, ◌≤◌, false, List, [], length, refl, sym, ap, subst, arith}
 use Rattle.std.proofs.lemmas.List.{length-replicate}
-use Rattle.named_run.specs.Named.{end_of, fires}
+use Rattle.named_run.specs.Named.{end_of}
 use Rattle.named_run.proofs.RunLaws.{none_owned}
-use Rattle.token_net.specs.Posts.{Leader, MayRaise, most_rows}
+use Rattle.token_net.specs.Posts.{Leader, MayRaise}
 use Rattle.board_rule.specs.Views.{Named, course}
 use Rattle.gang_board.specs.Begins.{Begins}
 use Rattle.thread_tests.specs.Runs.{idle, idle_named, idle_rows}

@@ -1,4 +1,4 @@
-use Rattle.std.proofs.Common.{sym, ap, ◌∙◌}
+use Rattle.std.proofs.Common.{sym, ◌∙◌}
 use Rattle.named_run.specs.Named.{token_of}
 use Rattle.thread_tests.proofs.Bare.{bare_again}
 use Rattle.thread_tests.proofs.tokens.give_all.Goals as goal

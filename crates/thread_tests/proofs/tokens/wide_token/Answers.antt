@@ -1,7 +1,6 @@
 use Rattle.std.proofs.Common.{◌≡◌, List, map, replicate, sym, ap, ◌∙◌}
 use Rattle.dt_core.specs.BitVectors.{BitVector, vector, plain}
 use Rattle.dt_core.specs.declared.bits.Bits.{Bits}
-use Rattle.named_run.specs.declared.token.Token.{Token}
 use Rattle.thread_tests.proofs.Wide.{wide_is}
 use Rattle.thread_tests.proofs.tokens.wide_token.Goals as goal
 
