@@ -1,6 +1,6 @@
 //! Rows of the same widths, kept packed.
 
-ghost use Rattle.std.specs.Prelude.{◌≡◌, ◌≤◌, ◌<◌, ◌+◌, ◌++◌, ◌∷◌, [], length, take, drop, slice_index_or, slice_set, slice_range, IfOk};
+ghost use Rattle.std.specs.Prelude.{◌≡◌, ◌≤◌, ◌<◌, ◌+◌, ◌++◌, ◌∷◌, [], length, take, drop, slice_index_or, slice_set, slice_range, IfOk, IsTrue};
 ghost use Rattle.std.specs.List.{All, sum};
 ghost use Rattle.packed_rows.specs.Packed.{Fits, number, packed, unpacked, word_count};
 
@@ -18,6 +18,7 @@ use std::marker::Model;
 #[derive(Drop)]
 pub struct PackedRows {
     widths: Vec<u32>,
+    is_short: bool,
     each: usize,
     most: u32,
     count: u32,
@@ -25,7 +26,7 @@ pub struct PackedRows {
 }
 
 impl Model for PackedRows {
-    ghost use Rattle.std.specs.Prelude.{◌≡◌, ◌≤◌, ◌*◌, length};
+    ghost use Rattle.std.specs.Prelude.{◌≡◌, ◌≤◌, ◌<◌, ◌*◌, length, IsTrue};
     ghost use Rattle.std.specs.List.{All, sum};
     ghost use Rattle.dt_core.specs.declared.limits.TheConstants.{MAX_WIDTH};
     ghost use Rattle.packed_rows.specs.Kept.{Kept};
@@ -41,7 +42,7 @@ impl Model for PackedRows {
 
     ghost invariant = { λ r. (r.each ≡ word_count (sum r.widths.items))
         × (length r.words.items ≡ r.most * r.each) × (r.count ≤ r.most)
-        × All (λ w. w ≤ MAX_WIDTH) r.widths.items };
+        × All (λ w. w ≤ MAX_WIDTH) r.widths.items × (IsTrue r.is_short → sum r.widths.items < 64) };
 }
 
 impl PackedRows {
@@ -51,10 +52,12 @@ impl PackedRows {
         requires few { sum widths.items ≤ u32.MAX }
         ensures { IfOk result (λ r. r ≡ record { widths = widths.items; most = most; rows = [] }) }
     {
-        let each = bits_of(&widths).div_ceil(64);
+        let bits = bits_of(&widths);
+        let each = bits.div_ceil(64);
         let words = vec![in alloc; 0u64; most as usize * each]?;
         Ok(PackedRows {
             widths,
+            is_short: bits < 64,
             each,
             most,
             count: 0,
@@ -86,7 +89,14 @@ impl PackedRows {
         ensures rows { self.new.rows ≡ self.old.rows ++ row.now ∷ [] }
     {
         let from = self.count as usize * self.each;
-        pack_at(&self.widths, row, &mut self.words, from, self.each);
+        pack_at(
+            &self.widths,
+            self.is_short,
+            row,
+            &mut self.words,
+            from,
+            self.each,
+        );
         self.count += 1;
     }
 
@@ -99,7 +109,14 @@ impl PackedRows {
         ensures rows { self.new.rows ≡ slice_set self.old.rows number row.now }
     {
         let from = number as usize * self.each;
-        pack_at(&self.widths, row, &mut self.words, from, self.each);
+        pack_at(
+            &self.widths,
+            self.is_short,
+            row,
+            &mut self.words,
+            from,
+            self.each,
+        );
     }
 
     /// Copies a row by its number, from 0. It takes no memory.
@@ -132,8 +149,16 @@ fn bits_of(widths: &[u32]) -> usize
 }
 
 // Packs a row into the words from a place on.
-fn pack_at(widths: &[u32], row: &[u128], words: &mut [u64], from: usize, each: usize)
+fn pack_at(
+    widths: &[u32],
+    is_short: bool,
+    row: &[u128],
+    words: &mut [u64],
+    from: usize,
+    each: usize,
+)
     requires wide { All (λ w. w ≤ MAX_WIDTH) widths.now }
+    requires short { IsTrue is_short → sum widths.now < 64 }
     requires fit { Fits widths.now row.now }
     requires long { length row.now ≡ length widths.now }
     requires each { each ≡ word_count (sum widths.now) }
@@ -142,7 +167,7 @@ fn pack_at(widths: &[u32], row: &[u128], words: &mut [u64], from: usize, each: u
     ensures after { drop (from + each) words.new ≡ drop (from + each) words.old }
     ensures row { number (slice_range words.new from (from + each)) ≡ packed widths.now row.now }
 {
-    pack(widths, row, &mut words[from..from + each]);
+    pack(widths, is_short, row, &mut words[from..from + each]);
 }
 
 // Unpacks the row that stands in the words from a place on.

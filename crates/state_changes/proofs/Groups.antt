@@ -29,15 +29,15 @@ module _ {X : Type 0} where
       ∙ ap (λ (r : List X). take n xs ∷ grouped ns r) rest
       ∙ ap (λ (gs : List (List X)). take n xs ∷ gs) (groups_within ns (m - n) (drop n xs) later)
 
--- the last of some lengths
-pub oldest : (k : ℕ) (ns : List ℕ) (c : ℕ) → length ns ≡ suc k → c ≡ unwrap_or (slice_get ns k) 0 → total ns ≡ total (take k ns) + c
-oldest zero [] c l e = absurd (omega (arith, l))
+-- the lengths within so many places, and the one behind them; there is no other
+pub oldest : (k : ℕ) (ns : List ℕ) (c : ℕ) → length ns ≤ suc k → c ≡ unwrap_or (slice_get ns k) 0 → total ns ≡ total (take k ns) + c
+oldest zero [] c l e = omega (arith, e)
 oldest zero (n ∷ []) c l e = omega (arith, e)
 oldest zero (n ∷ m ∷ ns) c l e = absurd (omega (arith, l))
-oldest (suc k) [] c l e = absurd (omega (arith, l))
+oldest (suc k) [] c l e = omega (arith, e)
 oldest (suc k) (n ∷ ns) c l e = let rest = oldest k ns c (omega (arith, l)) e in omega (arith, rest)
 
--- and the first
+-- the first of some lengths
 pub newest : (ns : List ℕ) (c : ℕ) → slice_get ns 0 ≡ Some c → total ns ≡ c + total (drop 1 ns)
 newest [] c e = absurd cc
 newest (n ∷ ns) c e = let same : n ≡ c = ap (λ (o : Option ℕ). unwrap_or o 0) e in omega (arith, same)

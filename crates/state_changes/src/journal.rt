@@ -81,22 +81,9 @@ impl<T: Copy + Drop> Journal<T> {
         ensures fresh { self.new.fresh ≡ [] }
         ensures most { self.new.most ≡ self.old.most }
     {
-        self.make_room();
-        let _ = self.counts.push_front(self.fresh);
+        let oldest = self.counts.push_front(self.fresh).unwrap_or(0);
+        self.items.truncate_back(self.items.len() - oldest);
         self.fresh = 0;
-    }
-
-    // Forgets the oldest cycle, where there is no room for one more.
-    fn make_room(&mut self)
-        ensures cycles { self.new.cycles ≡ take (self.old.most - 1) self.old.cycles }
-        ensures fresh { self.new.fresh ≡ self.old.fresh }
-        ensures most { self.new.most ≡ self.old.most }
-    {
-        if self.counts.len() < self.counts.capacity() {
-            return;
-        }
-        let count = self.counts.pop_back().unwrap_or(0);
-        self.items.truncate_back(self.items.len() - count);
     }
 
     /// Opens the newest cycle again, after which nothing was noted.

@@ -1,40 +1,42 @@
 //! What line 2 says of the rows, and the row that was read last.
 
-ghost use Rattle.std.specs.Prelude.{◌≡◌, ◌≤◌, ◌<◌, [], length, map, drop, slice_index_or};
+ghost use Rattle.std.specs.Prelude.{◌≡◌, ◌≤◌, ◌<◌, [], length, map, drop, slice_index_or, IsTrue, IfSome};
 ghost use Rattle.std.specs.List.{All};
 ghost use Rattle.stimulus.specs.Stimulus.{bad_name, lack_fault, names_fault, or_else, words};
 ghost use Rattle.stimulus.specs.Calls.Names.{Judges, shown};
 ghost use Rattle.stimulus.specs.Calls.Judging.{IsLayout, ReadsRow};
+ghost use Rattle.stimulus.specs.Calls.Single.{IsInOrder, ReadsSingle, row_of_values};
 
 use crate::digits::read_values;
 use crate::names::{LineFault, are_names_of, bad_name_of, places_of, widths_for, words_of};
 use crate::refusal::{Input, RefusalKind};
+use crate::single::{digit_limits, read_single};
 use dt_core::limits::MAX_WIDTH;
 use std::alloc::Global;
 use std::marker::Model;
 
-/// The widths of a row's values, the place of each input's value among them, the values and the row that were read last.
+/// The widths of a row's values with the limits of their digits, the place of each input's value among them, whether the
+/// values are in order of the ports, and the values that were read last with the row where they aren't.
 #[derive(Drop)]
 pub(crate) struct Columns {
     widths: Vec<u32>,
+    limits: Vec<u8>,
     places: Vec<usize>,
+    in_order: bool,
     values: Vec<u128>,
     row: Vec<u128>,
 }
 
 impl Model for Columns {
-    ghost use Rattle.std.specs.Prelude.{◌≡◌, ◌≤◌, ◌<◌, length};
-    ghost use Rattle.std.specs.List.{All};
     ghost use Rattle.stimulus.specs.Reader.{Layout};
-    ghost use Rattle.dt_core.specs.declared.limits.TheConstants.{MAX_WIDTH};
 
     ghost Value = { Layout };
 
-    ghost view = { λ c. record { widths = c.widths.items; places = c.places.items; row = c.row.items } };
+    ghost use Rattle.stimulus.specs.Calls.Inside.{layout_of, IsSound};
 
-    ghost invariant = { λ c. (length c.values.items ≡ length c.widths.items)
-        × (length c.row.items ≡ length c.places.items)
-        × All (λ place. place < length c.widths.items) c.places.items × All (λ w. w ≤ MAX_WIDTH) c.widths.items };
+    ghost view = { layout_of };
+
+    ghost invariant = { IsSound };
 }
 
 impl Columns {
@@ -42,7 +44,9 @@ impl Columns {
     pub fn none(alloc: Global) -> Columns {
         Columns {
             widths: Vec::new(alloc),
+            limits: Vec::new(alloc),
             places: Vec::new(alloc),
+            in_order: false,
             values: Vec::new(alloc),
             row: Vec::new(alloc),
         }
@@ -72,11 +76,15 @@ impl Columns {
             None => {
                 let places = places_of(alloc, inputs, names)?;
                 let widths = widths_for(alloc, inputs, names)?;
+                let limits = digit_limits(alloc, &widths)?;
+                let in_order = are_in_order(&places, widths.len());
                 let values = vec![in alloc; 0u128; widths.len()]?;
                 let row = vec![in alloc; 0u128; places.len()]?;
                 Ok(Columns {
                     widths,
+                    limits,
                     places,
+                    in_order,
                     values,
                     row,
                 })
@@ -91,27 +99,63 @@ impl Columns {
     {
         match read_values(line, &self.widths, &mut self.values) {
             Ok(()) => {
-                gather(&self.values, &self.places, &mut self.row);
+                gather(&self.values, &self.places, self.in_order, &mut self.row);
                 Ok(())
             }
             Err(kind) => Err(kind),
         }
     }
 
+    /// Reads a row of single digits that stands at the head of the bytes: how many bytes it has before its LF.
+    pub fn read_single(&mut self, bytes: &[u8]) -> Option<usize>
+        ensures reads { IfSome result (ReadsSingle self.old self.new bytes.now) }
+        ensures same { (self.new.widths ≡ self.old.widths) × (self.new.places ≡ self.old.places) }
+    {
+        if !read_single(bytes, &self.limits, &mut self.values) {
+            return None;
+        }
+        gather(&self.values, &self.places, self.in_order, &mut self.row);
+        Some(2 * self.limits.len() - 1)
+    }
+
     /// The row that was read last.
     pub fn row(&self) -> &[u128]
         ensures { result.now ≡ self.now.row }
     {
-        &self.row
+        if self.in_order {
+            &self.values
+        } else {
+            &self.row
+        }
     }
 }
 
-// The values at these places.
-fn gather(values: &[u128], places: &[usize], row: &mut [u128])
+// Whether the places are all those from 0 on, so many.
+fn are_in_order(places: &[usize], count: usize) -> bool
+    ensures { IsTrue result → IsInOrder count places.now }
+{
+    if places.len() != count {
+        return false;
+    }
+    for (k, place) in places.iter().enumerate() {
+        if *place != k {
+            return false;
+        }
+    }
+    true
+}
+
+// Puts the values at these places into the row, where they aren't in order.
+fn gather(values: &[u128], places: &[usize], in_order: bool, row: &mut [u128])
     requires size { length row.old ≡ length places.now }
     requires within { All (λ place. place < length values.now) places.now }
-    ensures { row.new ≡ map (λ place. slice_index_or values.now place 0) places.now }
+    requires order { IsTrue in_order → IsInOrder (length values.now) places.now }
+    ensures size { length row.new ≡ length row.old }
+    ensures row { row_of_values in_order values.now row.new ≡ map (λ place. slice_index_or values.now place 0) places.now }
 {
+    if in_order {
+        return;
+    }
     for (k, place) in places.iter().enumerate() {
         row[k] = values[*place];
     }

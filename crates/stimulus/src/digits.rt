@@ -54,8 +54,8 @@ pub(crate) struct Few {
     value: u64,
 }
 
-// The value of a hexadecimal digit, or 255.
-fn digit_of(byte: u8) -> u8
+/// The value of a hexadecimal digit, or 255.
+pub(crate) fn digit_of(byte: u8) -> u8
     ensures { result ≡ digit_code byte }
 {
     let digits = DIGITS.as_slice();

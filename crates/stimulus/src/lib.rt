@@ -20,4 +20,5 @@ mod lines;
 mod names;
 pub mod reader;
 pub mod refusal;
+mod single;
 mod take;

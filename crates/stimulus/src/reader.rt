@@ -1,6 +1,6 @@
 //! The reader of a stimulus, which gives its rows one after another.
 
-ghost use Rattle.std.specs.Prelude.{◌≡◌, ◌≤◌, ◌↔◌, ◌++◌, [], List, ℕ, true, IfOk, IsTrue, Ok, Err};
+ghost use Rattle.std.specs.Prelude.{◌≡◌, ◌≤◌, ◌↔◌, ◌++◌, ◌∷◌, [], List, ℕ, true, false, IfOk, IsTrue, Ok, Err};
 ghost use Rattle.std.specs.List.{All};
 ghost use Rattle.std.specs.Io.KnownBytes.{Consumes};
 ghost use Rattle.stimulus.specs.Reads.{Reads, RowIs};
@@ -9,7 +9,7 @@ ghost use Rattle.stimulus.specs.declared.refusal.StimFault.TheVariants as f;
 use crate::buffer::Buffer;
 use crate::columns::Columns;
 use crate::refusal::{Input, StimFault};
-use crate::take::{take_head, take_line};
+use crate::take::{take_head, take_line, take_single};
 use dt_core::fault::NoMemory;
 use dt_core::limits::MAX_WIDTH;
 use dt_io::outside::Source;
@@ -72,6 +72,42 @@ impl StimReader {
 
     /// Reads the next row into `row()`: true, or false at the end of a whole stimulus. It takes memory at the first call alone.
     pub fn next_row<S: Source>(&mut self, alloc: Global, source: &mut S) -> Result<bool, StimFault>
+        requires { IsTrue self.old.live }
+        ensures answer { (taken : List ℕ) (given : List (List ℕ)) → Reads self.old taken given
+            → (more : List ℕ) × Consumes (S.left source.old) (S.left source.new) more
+            × RowIs given (taken ++ more) self.new
+            (S.left source.new) (S.faults source.old) (S.faults source.new) result }
+        ensures inputs { self.new.inputs ≡ self.old.inputs }
+        ensures memory { result ≡ Err f.Memory → self.old.number ≡ 0 }
+        ensures live { IsTrue self.new.live ↔ (result ≡ Ok true) }
+        ensures later { S.faults source.old ≤ S.faults source.new }
+    {
+        if self.take_single() {
+            return Ok(true);
+        }
+        self.take_row(alloc, source)
+    }
+
+    // Takes a row of single digits, where one stands whole at the head of the bytes held: whether it did.
+    fn take_single(&mut self) -> bool
+        ensures taken { IsTrue result → (taken : List ℕ) (given : List (List ℕ)) → Reads self.old taken given
+            → Reads self.new taken (given ++ self.new.layout.row ∷ []) }
+        ensures later { IsTrue result → 2 ≤ self.new.number }
+        ensures left { result ≡ false → (taken : List ℕ) (given : List (List ℕ)) → Reads self.old taken given
+            → Reads self.new taken given }
+        ensures number { result ≡ false → self.new.number ≡ self.old.number }
+        ensures inputs { self.new.inputs ≡ self.old.inputs }
+        ensures live { self.new.live ≡ self.old.live }
+    {
+        if !take_single(self.number, &mut self.columns, &mut self.buffer) {
+            return false;
+        }
+        self.number += 1;
+        true
+    }
+
+    // Takes the next row as a line, and before the first one lines 1 and 2.
+    fn take_row<S: Source>(&mut self, alloc: Global, source: &mut S) -> Result<bool, StimFault>
         requires { IsTrue self.old.live }
         ensures answer { (taken : List ℕ) (given : List (List ℕ)) → Reads self.old taken given
             → (more : List ℕ) × Consumes (S.left source.old) (S.left source.new) more

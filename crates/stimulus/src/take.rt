@@ -1,8 +1,8 @@
 //! Taking lines from a source, one after another.
 
-ghost use Rattle.std.specs.Prelude.{◌≡◌, ◌+◌, ◌<◌, ◌≤◌, ◌⊎◌, IfOk, Ok, Err, true};
+ghost use Rattle.std.specs.Prelude.{◌≡◌, ◌+◌, ◌<◌, ◌≤◌, ◌⊎◌, IfOk, Ok, Err, true, false, IsTrue};
 ghost use Rattle.std.specs.List.{All};
-ghost use Rattle.stimulus.specs.Calls.Taking.{TakesHead, TakesLine, end_of, fault_at, refused_at};
+ghost use Rattle.stimulus.specs.Calls.Taking.{TakesHead, TakesLine, TakesRow, end_of, fault_at, refused_at};
 ghost use Rattle.stimulus.specs.declared.refusal.StimFault.TheVariants as f;
 
 use crate::buffer::Buffer;
@@ -111,5 +111,25 @@ pub(crate) fn take_head<S: Source>(
             Err(fault) => Err(fault),
         },
         Err(fault) => Err(fault),
+    }
+}
+
+/// Takes a row of single digits, where one stands whole at the head of the bytes held, as the line of this number from 0:
+/// whether it did.
+pub(crate) fn take_single(number: u64, columns: &mut Columns, buffer: &mut Buffer) -> bool
+    ensures taken { IsTrue result → TakesRow number columns.old buffer.old columns.new buffer.new }
+    ensures few { IsTrue result → (2 ≤ number) × (number < MAX_ROWS + 2) }
+    ensures left { result ≡ false → buffer.new ≡ buffer.old }
+    ensures same { (columns.new.widths ≡ columns.old.widths) × (columns.new.places ≡ columns.old.places) }
+{
+    if number < 2 || number >= MAX_ROWS as u64 + 2 {
+        return false;
+    }
+    match columns.read_single(buffer.held()) {
+        Some(len) if len <= MAX_LINE => {
+            buffer.skip(len + 1);
+            true
+        }
+        _ => false,
     }
 }

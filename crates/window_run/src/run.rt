@@ -104,8 +104,13 @@ impl<'a> Run<'a> {
             return Ok(());
         }
         self.last.push(row);
-        self.failure = step(alloc, &mut self.sim, &mut self.journal, row, steps)?;
-        Ok(())
+        match step(alloc, &mut self.sim, &mut self.journal, row, steps)? {
+            Some(failure) => {
+                self.failure = Some(failure);
+                Ok(())
+            }
+            None => Ok(()),
+        }
     }
 
     /// How many rows were taken.

@@ -61,3 +61,9 @@ TakesHead inputs number layout held layout' held' left left' before now result =
     (taken : List ℕ) (given : List (List ℕ)) → Stands inputs number layout held taken given
     → (more : List ℕ) × Consumes left left' more
     × HeadIs inputs given (taken ++ more) layout' held' left' before now result
+
+-- a row was taken, whatever was taken and given before it
+abbrev pub TakesRow : ℕ → Layout → Held → Layout → Held → Type 0
+TakesRow number layout held layout' held' =
+    (inputs : List Input) (taken : List ℕ) (given : List (List ℕ)) → Stands inputs number layout held taken given
+    → Stands inputs (number + 1) layout' held' taken (given ++ layout'.row ∷ [])

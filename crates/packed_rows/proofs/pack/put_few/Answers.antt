@@ -1,22 +1,13 @@
-use Rattle.std.proofs.Common.{◌+◌, ◌-◌, ◌*◌, ◌^◌, ◌<◌, ◌≤◌, ℕ, length, take, set, refl, sym, ap₂, subst, ◌∙◌, arith}
+use Rattle.std.proofs.Common.{◌+◌, ◌-◌, ◌*◌, ◌^◌, ◌<◌, ◌≤◌, ℕ, length, take, set, refl, sym, ap, ap₂, subst, ◌∙◌, arith}
 use Rattle.packed_rows.specs.Packed.{number}
-use Rattle.packed_rows.proofs.PackLaws.{all_in_word, high_of_word, joined_fits, put_held, put_rest, put_word}
+use Rattle.packed_rows.proofs.PackLaws.{high_of_word, put_held, put_rest, put_word}
 use Rattle.packed_rows.proofs.pack.put_few.Goals as goal
-
-pub returns-then-count-lt64-clause-held : goal.returns-then-count-lt64-clause-held
-returns-then-count-lt64-clause-held c =
-    let h = c.args.held in
-    let v = c.args.value in
-    let less = joined_fits h.bits v h.count c.args.width c.requires.held.1 c.requires.fits in
-    let same = all_in_word h.bits v h.count c.args.width (omega arith) c.requires.held.1 c.requires.fits in
-    (omega arith, omega (arith, same, less, c.low_part-low.ensures))
 
 pub returns-then-count-lt64-clause-written : goal.returns-then-count-lt64-clause-written
 returns-then-count-lt64-clause-written c =
     let h = c.args.held in
-    let v = c.args.value in
-    let same = all_in_word h.bits v h.count c.args.width (omega arith) c.requires.held.1 c.requires.fits in
-    put_held c.args.words.now h c.low_part-low.result v (c.low_part-low.ensures ∙ same)
+    ap (λ (n : ℕ). number (take n c.args.words.now) + 2 ^ (64 * n) * c.hold.result.bits) c.hold.ensures.next
+    ∙ put_held c.args.words.now h c.hold.result.bits c.args.value c.hold.ensures.bits
 
 pub returns-clause-held : goal.returns-clause-held
 returns-clause-held c =
@@ -35,5 +26,5 @@ returns-clause-written c =
     let t = h.bits + v * 2 ^ h.count in
     let high = c.high_part.ensures ∙ high_of_word h.bits v h.count c.requires.held.0 c.requires.held.1 in
     let less : h.next < length words = omega arith in
-    ap₂ (λ (x y : ℕ). number (take (h.next + 1) (set words h.next x)) + 2 ^ (64 * (h.next + 1)) * y) c.low_part-low.ensures high
+    ap₂ (λ (x y : ℕ). number (take (h.next + 1) (set words h.next x)) + 2 ^ (64 * (h.next + 1)) * y) c.low_part.ensures high
     ∙ put_word words h t v refl less

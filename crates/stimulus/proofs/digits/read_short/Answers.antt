@@ -1,7 +1,7 @@
-use Rattle.std.proofs.Common.{◌∙◌, ap, sym, arith}
+use Rattle.std.proofs.Common.{◌∙◌, ap, arith}
 use Rattle.std.proofs.lemmas.List.{length-set}
 use Rattle.stimulus.specs.Calls.Digits.{words_in}
-use Rattle.stimulus.proofs.ValueLaws.{led_none, led_on, passed_none, passed_on, all_passed}
+use Rattle.stimulus.proofs.ValueLaws.{led_on, passed_on}
 use Rattle.stimulus.proofs.digits.read_short.Goals as goal
 
 pub loop-place-preserved : goal.loop-place-preserved

@@ -33,7 +33,7 @@ invariant_of-self c =
     let r = c.self.inside in
     let less = has_room r.widths.items r.words.items r.each r.count r.most c.args.self.now (sym c.self.view_is) c.requires.room in
     let same = with_items_is r.words c.pack_at.new.words (omega arith) in
-    (c.self.invariant.0, omega (arith, ap length same, c.self.invariant.1), omega (arith, less), c.self.invariant.3)
+    (c.self.invariant.0, omega (arith, ap length same, c.self.invariant.1), omega (arith, less), c.self.invariant.3, c.self.invariant.4)
 
 pub returns-clause-rows : goal.returns-clause-rows
 returns-clause-rows c =

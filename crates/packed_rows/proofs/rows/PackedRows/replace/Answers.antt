@@ -34,7 +34,7 @@ pub invariant_of-self : goal.invariant_of-self
 invariant_of-self c =
     let r = c.self.inside in
     let same = with_items_is r.words c.pack_at.new.words (omega arith) in
-    (c.self.invariant.0, omega (arith, ap length same, c.self.invariant.1), c.self.invariant.2, c.self.invariant.3)
+    (c.self.invariant.0, omega (arith, ap length same, c.self.invariant.1), c.self.invariant.2, c.self.invariant.3, c.self.invariant.4)
 
 pub returns-clause-rows : goal.returns-clause-rows
 returns-clause-rows c =

@@ -15,8 +15,8 @@ returns-then-is_some-clause-ran g c = λ flat order rows r.
     ran_on flat order rows c.args.row.now (progress_of c.self.inside) _ (search rules) refl
     (subst (RanTo flat order rows) (sym c.self.view_is) r)
 
-pub returns-clause-ran : goal.returns-clause-ran
-returns-clause-ran g c = λ flat order rows r.
+pub returns-in-Some-clause-ran : goal.returns-in-Some-clause-ran
+returns-in-Some-clause-ran g c = λ flat order rows r.
     let p = progress_of c.self.inside in
     let before = subst (RanTo flat order rows) (sym c.self.view_is) r in
     let none : p.failure ≡ None = none_found p.failure (search rules) in
@@ -25,7 +25,19 @@ returns-clause-ran g c = λ flat order rows r.
       lag = refl;
       cycles = refl;
       rows_are = c.push.ensures.rows ∙ ap (λ n. last_ones n (p.kept.rows ++ c.args.row.now ∷ [])) c.self.invariant.rows;
-    }) c.self.invariant.notes _ refl c.in_ok-self-inside.ensures.takes
+    }) c.self.invariant.notes _ (sym c.in-Some.is) c.in_ok-failure.ensures.takes
+
+pub returns-in-None-clause-ran : goal.returns-in-None-clause-ran
+returns-in-None-clause-ran g c = λ flat order rows r.
+    let p = progress_of c.self.inside in
+    let before = subst (RanTo flat order rows) (sym c.self.view_is) r in
+    let none : p.failure ≡ None = none_found p.failure (search rules) in
+    ran_one flat order rows c.args.row.now settles_once p (quiet flat order rows c.args.row.now p none before) refl _ (record {
+      flat = c.step.ensures.flat;
+      lag = refl;
+      cycles = refl;
+      rows_are = c.push.ensures.rows ∙ ap (λ n. last_ones n (p.kept.rows ++ c.args.row.now ∷ [])) c.self.invariant.rows;
+    }) c.self.invariant.notes _ (none ∙ sym c.in-None.is) c.in_ok-failure.ensures.takes
 
 pub push-requires : goal.push-requires
 push-requires g c =
