@@ -1,0 +1,2 @@
+mod Evaluating
+mod Mentioning

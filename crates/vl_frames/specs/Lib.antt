@@ -1,0 +1,4 @@
+pub mod Changes
+pub mod Marks
+pub mod Named
+pub mod Sights

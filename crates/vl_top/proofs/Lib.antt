@@ -1,0 +1,3 @@
+mod Finding
+mod Gathering
+mod Roots
