@@ -1,0 +1,5 @@
+mod Build
+mod DriverFaultExamples
+mod NameFaultExamples
+mod PartExamples
+mod RunExamples
