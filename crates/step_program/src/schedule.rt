@@ -1,6 +1,7 @@
 //! An order of a builder's steps in which many of one kind stand together: again and again, of the kinds of which steps
-//! are ready, the one with the most. It is linear in the steps. Nothing is promised of the order: what it names too early
-//! is passed over, and put last.
+//! are ready, the one on whose steps the longest chain waits, and of several such kinds the one with the most steps. A
+//! chain is as long as it changes the kind. It is linear in the steps. Nothing is promised of the order: what it names
+//! too early is passed over, and put last.
 
 use crate::entry::Entry;
 use crate::numbers::Numbers;
@@ -33,6 +34,12 @@ fn kind_of(step: &Step) -> usize {
         Step::Sum(_) => 7,
         Step::Rare(_) => 8,
     }
+}
+
+// The kind of the step at a place.
+fn kind_at(entries: &[Entry], place: usize) -> Option<usize> {
+    let entry = entries.get(place)?;
+    Some(kind_of(&entry.step))
 }
 
 // For each slot that a step gives, the step's place.
@@ -76,14 +83,22 @@ impl Owners {
     }
 }
 
-// For each step how many steps it waits for, and the first edge to one that reads it; the steps that are ready, by kind;
-// those in order.
+// The steps of a kind that are ready, and how often the longest chain that waits for one of them changes the kind.
+#[derive(Drop)]
+struct Ready {
+    steps: Vec<usize>,
+    height: u32,
+}
+
+// For each step how many steps it waits for, the first edge to one that reads it, and how often the longest chain from it
+// on changes the kind; the steps that are ready, by kind; those in order.
 #[derive(Drop)]
 struct Schedule {
     waits: Vec<u32>,
     heads: Vec<usize>,
     edges: Vec<Edge>,
-    ready: Vec<Vec<usize>>,
+    heights: Vec<u32>,
+    ready: Vec<Ready>,
     order: Vec<usize>,
 }
 
@@ -91,12 +106,16 @@ impl Schedule {
     fn new(alloc: Global, count: usize) -> Result<Schedule, AllocError> {
         let mut ready = Vec::new(alloc);
         for _ in 0..KINDS {
-            ready.push(Vec::new(alloc))?;
+            ready.push(Ready {
+                steps: Vec::new(alloc),
+                height: 0,
+            })?;
         }
         Ok(Schedule {
             waits: vec![in alloc; 0u32; count]?,
             heads: vec![in alloc; NONE; count]?,
             edges: Vec::new(alloc),
+            heights: vec![in alloc; 0u32; count]?,
             ready,
             order: Vec::new(alloc),
         })
@@ -128,11 +147,52 @@ impl Schedule {
         Ok(())
     }
 
+    // The height of a step: that of the highest one that reads it, and one more where that is of another kind.
+    fn height_of(&self, entries: &[Entry], place: usize, kind: usize) -> u32 {
+        let mut height = 0;
+        let mut edge = self.head(place);
+        for _ in 0..u64::MAX {
+            let Some(at) = self.edges.get(edge) else {
+                break;
+            };
+            let own = self.height(at.reader);
+            if kind_at(entries, at.reader) == Some(kind) {
+                height = height.max(own);
+            } else {
+                height = height.max(own.saturating_add(1));
+            }
+            edge = at.next;
+        }
+        height
+    }
+
+    // The heights of all steps, each of which is read by later ones alone.
+    fn set_heights(&mut self, entries: &[Entry]) {
+        for place in (0..entries.len()).rev() {
+            if let Some(kind) = kind_at(entries, place) {
+                let height = self.height_of(entries, place, kind);
+                if let Some(own) = self.heights.get_mut(place) {
+                    *own = height;
+                }
+            }
+        }
+    }
+
+    fn head(&self, place: usize) -> usize {
+        self.heads.get(place).copied().unwrap_or(NONE)
+    }
+
+    fn height(&self, place: usize) -> u32 {
+        self.heights.get(place).copied().unwrap_or(0)
+    }
+
     // A step waits for none.
     fn is_ready(&mut self, entries: &[Entry], place: usize) -> Result<(), AllocError> {
-        if let Some(entry) = entries.get(place) {
-            if let Some(ready) = self.ready.get_mut(kind_of(&entry.step)) {
-                ready.push(place)?;
+        let height = self.height(place);
+        if let Some(kind) = kind_at(entries, place) {
+            if let Some(ready) = self.ready.get_mut(kind) {
+                ready.steps.push(place)?;
+                ready.height = ready.height.max(height);
             }
         }
         Ok(())
@@ -156,10 +216,7 @@ impl Schedule {
     // A step comes next.
     fn take(&mut self, entries: &[Entry], place: usize) -> Result<(), AllocError> {
         self.order.push(place)?;
-        let mut edge = match self.heads.get(place) {
-            Some(head) => *head,
-            None => NONE,
-        };
+        let mut edge = self.head(place);
         for _ in 0..u64::MAX {
             match self.edges.get(edge) {
                 Some(at) => {
@@ -173,26 +230,34 @@ impl Schedule {
         Ok(())
     }
 
-    // The kind of which most steps are ready.
-    fn longest(&self) -> Option<usize> {
-        let mut best = 0usize;
+    // The kind that comes next: none where no step is ready.
+    fn next_kind(&self) -> Option<usize> {
+        let mut best = (0u32, 0usize);
         let mut found = None;
         for (kind, ready) in self.ready.iter().enumerate() {
-            if ready.len() > best {
-                best = ready.len();
+            let own = (ready.height, ready.steps.len());
+            if own.1 > 0 && own > best {
+                best = own;
                 found = Some(kind);
             }
         }
         found
     }
 
+    // A step of a kind that is ready; where it is the last one, no chain waits for the kind.
+    fn take_ready(&mut self, kind: usize) -> Option<usize> {
+        let ready = self.ready.get_mut(kind)?;
+        let next = ready.steps.pop();
+        if ready.steps.is_empty() {
+            ready.height = 0;
+        }
+        next
+    }
+
     // All steps of a kind that are ready, or become so by these. Each turn takes one, so the count of turns is no bound.
     fn take_kind(&mut self, entries: &[Entry], kind: usize) -> Result<(), AllocError> {
         for _ in 0..u64::MAX {
-            let next = match self.ready.get_mut(kind) {
-                Some(ready) => ready.pop(),
-                None => None,
-            };
+            let next = self.take_ready(kind);
             match next {
                 Some(place) => self.take(entries, place)?,
                 None => return Ok(()),
@@ -203,7 +268,7 @@ impl Schedule {
 
     fn take_all(&mut self, entries: &[Entry]) -> Result<(), AllocError> {
         for _ in 0..u64::MAX {
-            match self.longest() {
+            match self.next_kind() {
                 Some(kind) => self.take_kind(entries, kind)?,
                 None => return Ok(()),
             }
@@ -221,6 +286,7 @@ pub(crate) fn order(
     let owners = Owners::new(alloc, given, entries)?;
     let mut schedule = Schedule::new(alloc, entries.len())?;
     schedule.link_all(&owners, entries)?;
+    schedule.set_heights(entries);
     for place in 0..entries.len() {
         if schedule.waits.get(place) == Some(&0) {
             schedule.is_ready(entries, place)?;
