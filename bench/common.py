@@ -10,14 +10,26 @@ PROGRAM = os.path.join(TOP, "crates", "dessert_cli", "out", "dessert_cli")
 COUNTER = os.path.join(TOP, "examples", "cnt.v")
 
 
-def built_of_rattle(folder, name, below, proofs=None):
-    """Builds NAME.rattle by `rt run` in a copy of the crates below it, so that nothing of it stands in the repository's crates.
-    `proofs` are files of its own proofs, by their paths."""
+def crates_below(names):
+    """The lines of crates.txt for these crates and for those that they stand on, by name."""
     with open(os.path.join(TOP, "crates.txt")) as file:
-        entries = [entry for entry in file if entry.split(":")[0] in below]
+        lines = {line.split(":")[0]: line for line in file if ":" in line and not line.startswith("#")}
+    found, left = {}, list(names)
+    while left:
+        name = left.pop()
+        if name in lines and name not in found:
+            found[name] = lines[name]
+            left.extend(lines[name].split(":")[1].split())
+    return found
+
+
+def built_of_rattle(folder, name, below, proofs=None):
+    """Builds NAME.rattle by `rt run` in a copy of the crates that it stands on, so that nothing of it stands in the repository's crates.
+    `proofs` are files of its own proofs, by their paths."""
+    crates = crates_below(below)
     with open(os.path.join(folder, "crates.txt"), "w") as file:
-        file.writelines(entries + ["%s_bench: %s\n" % (name, " ".join(below))])
-    for crate in below:
+        file.writelines(list(crates.values()) + ["%s_bench: %s\n" % (name, " ".join(below))])
+    for crate in crates:
         source = os.path.join(TOP, "crates", crate)
         shutil.copytree(source, os.path.join(folder, "crates", crate), ignore=shutil.ignore_patterns("out", "must-fail"))
     crate = os.path.join(folder, "crates", name + "_bench")
