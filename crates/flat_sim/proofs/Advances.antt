@@ -15,14 +15,14 @@ use Rattle.net_compile.proofs.Fitting.{some_width}
 use Rattle.step_program.specs.Values.{Slots, slot_value, contents}
 use Rattle.net_compile.specs.Compiles.{Machine, Compiles}
 use Rattle.step_program.specs.declared.words.MemoryWords.{MemoryWords}
-use Rattle.flat_sim.specs.Kept.{AllKept, state_words}
-use Rattle.flat_sim.specs.Slots.{numbers}
-use Rattle.flat_sim.specs.Moves.{next_numbers, register_numbers}
-use Rattle.flat_sim.specs.States.{RegistersFit}
-use Rattle.flat_sim.proofs.InPlace.{state_after}
-use Rattle.flat_sim.proofs.Words.{kept_count}
+use Rattle.held_state.specs.Kept.{AllKept, state_words}
+use Rattle.held_state.specs.Slots.{numbers}
+use Rattle.held_state.specs.Moves.{next_numbers, register_numbers}
+use Rattle.held_state.specs.States.{RegistersFit}
+use Rattle.held_state.proofs.InPlace.{state_after}
+use Rattle.held_state.proofs.Words.{kept_count}
 use Rattle.flat_sim.proofs.Ran.{state_in}
-use Rattle.flat_sim.proofs.Taken.{next_there}
+use Rattle.held_state.proofs.Taken.{next_there}
 
 -- the values of nodes fit register parts of their widths
 parts_fit : (blocks : ℕ) (ss : List Signal) (nodes : List Node) (xs : List ℕ) (ps : List RegisterPart)

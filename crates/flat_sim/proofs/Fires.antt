@@ -13,11 +13,11 @@ use Rattle.netlist.specs.Fits.{IsWellFormed}
 use Rattle.step_program.specs.Values.{Slots, slot_value}
 use Rattle.step_program.specs.declared.step.Slot.{Slot}
 use Rattle.net_compile.specs.Cycle.{slot_at}
-use Rattle.flat_sim.specs.Slots.{numbers}
+use Rattle.held_state.specs.Slots.{numbers}
 use Rattle.flat_sim.specs.Stops.{block_stops, stop_slots, some_holds}
-use Rattle.flat_sim.proofs.Settles.{number_at}
-use Rattle.flat_sim.proofs.Taken.{node_there}
-use Rattle.flat_sim.specs.Writes.{stops_in, some_stops, has_some}
+use Rattle.held_state.proofs.GivenLaws.{number_at}
+use Rattle.held_state.proofs.Taken.{node_there}
+use Rattle.flat_sim.specs.Stops.{stops_in, some_stops, has_some}
 
 one_some : (done stops : Bool) (x : Fired) (more : List Fired) (rest : Bool) → has_some more ≡ rest
     → has_some ((if done then (if stops then x ∷ [] else []) else []) ++ more) ≡ ((done && stops) || rest)

@@ -1,16 +1,8 @@
-pub mod Puts
-pub mod Words
-pub mod Fires
 pub mod Settles
-pub mod InPlace
+pub mod Fires
 pub mod Told
 pub mod Loops
-pub mod Machines
 pub mod Ran
 pub mod Starts
-pub mod Taken
 pub mod Advances
 pub mod Parts
-pub mod NotingLaws
-pub mod UndoingLaws
-pub mod InTurn

@@ -7,9 +7,9 @@ use Rattle.netlist.specs.Plain.{PlainMemory}
 use Rattle.netlist.specs.Run.{all_words}
 use Rattle.step_program.specs.Values.{contents}
 use Rattle.step_program.specs.declared.words.MemoryWords.{MemoryWords}
-use Rattle.flat_sim.specs.Kept.{IsKept, AllKept, state_words}
-use Rattle.flat_sim.specs.States.{WordsFit, MemoriesFit}
-use Rattle.flat_sim.proofs.Words.{kept_pushed}
+use Rattle.held_state.specs.Kept.{IsKept, AllKept, state_words}
+use Rattle.held_state.specs.States.{WordsFit, MemoriesFit}
+use Rattle.held_state.proofs.Words.{kept_pushed}
 
 pub one_more : (k : ℕ) → suc k ≡ k + 1
 one_more k = omega arith

@@ -21,7 +21,7 @@ use Rattle.net_compile.specs.Cycle.{signal_width, RowFits}
 use Rattle.net_compile.proofs.GivenSlots.{blank}
 use Rattle.bit_ops.specs.Operators as ops
 use Rattle.flat_sim.specs.Signals.{with_bits, with_registers, with_driven, IsSpan, IsInputOf}
-use Rattle.flat_sim.proofs.InPlace.{some_at}
+use Rattle.held_state.proofs.InPlace.{some_at}
 use Rattle.flat_sim.specs.declared.signals.Span.{Span}
 
 -- ---- the parts of one signal

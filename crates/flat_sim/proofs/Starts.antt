@@ -9,7 +9,7 @@ use Rattle.netlist.specs.Run.{State}
 use Rattle.netlist.specs.declared.design.Signal.{Signal}
 use Rattle.netlist.specs.declared.design.RegisterPart.{RegisterPart}
 use Rattle.netlist.specs.declared.node.Node.{Node}
-use Rattle.flat_sim.specs.States.{RegistersFit}
+use Rattle.held_state.specs.States.{RegistersFit}
 
 all_fit : (blocks : ℕ) (ss : List Signal) (nodes : List Node) (ps : List RegisterPart)
     → AllByRecursion (RegisterFits blocks ss nodes) ps → RegistersFit ps (map (λ (p : RegisterPart). p.initial) ps)

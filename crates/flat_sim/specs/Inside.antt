@@ -10,11 +10,11 @@ use Rattle.step_program.specs.Plan.{IsReady, held}
 use Rattle.net_compile.specs.Cycle.{RowFits}
 use Rattle.net_compile.specs.Compiles.{Compiles}
 use Rattle.flat_sim.specs.Moment.{Moment}
-use Rattle.flat_sim.specs.Slots.{numbers}
-use Rattle.flat_sim.specs.Moves.{IsCommitOf}
-use Rattle.flat_sim.specs.Kept.{AllKept, state_words}
+use Rattle.held_state.specs.Slots.{numbers}
+use Rattle.held_state.specs.Moves.{IsCommitOf}
+use Rattle.held_state.specs.Kept.{AllKept, state_words}
 use Rattle.flat_sim.specs.Stops.{stop_slots}
-use Rattle.flat_sim.specs.States.{RegistersFit}
+use Rattle.held_state.specs.States.{RegistersFit}
 use Rattle.flat_sim.specs.declared.sim.Sim.TheInside.{Inside}
 
 abbrev pub flat_of : Inside → Flat

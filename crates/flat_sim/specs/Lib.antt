@@ -1,11 +1,4 @@
 pub mod Moment
-pub mod Slots
-pub mod Moves
-pub mod Kept
-pub mod States
-pub mod Back
-pub mod Writes
-pub mod Noting
 pub mod Stops
 pub mod Signals
 pub mod Inside

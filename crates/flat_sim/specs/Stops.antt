@@ -1,5 +1,5 @@
 -- The conditions of stops, in slots. This project's own.
-use Rattle.std.specs.Prelude.{◌||◌, Bool, false, if◌then◌else◌, List, [], ◌∷◌, ◌++◌}
+use Rattle.std.specs.Prelude.{ℕ, ◌&&◌, ◌||◌, Bool, true, false, if◌then◌else◌, List, [], ◌∷◌, ◌++◌, slice_index}
 use Rattle.bit_ops.specs.Operators as ops
 use Rattle.netlist.specs.Plain.{PlainBlock}
 use Rattle.netlist.specs.Run.{is_stop}
@@ -22,3 +22,17 @@ stop_slots nodes (b ∷ bs) = block_stops nodes b.events ++ stop_slots nodes bs
 abbrev pub some_holds : Slots → List Slot → Bool
 some_holds x [] = false
 some_holds x (s ∷ ss) = ops.holds (slot_value x s) || some_holds x ss
+
+-- some stop among the events is done
+abbrev pub stops_in : List ℕ → List Event → Bool
+stops_in xs [] = false
+stops_in xs (x ∷ more) = (ops.holds (slice_index xs x.condition) && is_stop x.effect) || stops_in xs more
+
+-- a list has an element
+abbrev pub has_some : {X : Type 0} → List X → Bool
+has_some [] = false
+has_some (x ∷ xs) = true
+
+abbrev pub some_stops : List ℕ → List PlainBlock → Bool
+some_stops xs [] = false
+some_stops xs (b ∷ bs) = stops_in xs b.events || some_stops xs bs

@@ -5,10 +5,10 @@ ghost use Rattle.std.specs.List.{All};
 ghost use Rattle.netlist.specs.Fits.{EventFits};
 ghost use Rattle.netlist.specs.Run.{blocks_fired};
 ghost use Rattle.message_text.specs.Told as told;
-ghost use Rattle.flat_sim.specs.Writes as writes;
+ghost use Rattle.held_state.specs.Writes as writes;
 
-use crate::nodes::Nodes;
 use dt_core::fault::NoMemory;
+use held_state::nodes::Nodes;
 use message_text::telling::{Fired, Given, Telling};
 use netlist::design::{Effect, Event};
 use std::alloc::{AllocError, Global};

@@ -4,8 +4,8 @@ ghost use Rattle.std.specs.Prelude.{◌≡◌, ◌<◌, ◌^◌, [], map, is_som
 ghost use Rattle.std.specs.List.{All};
 ghost use Rattle.netlist.specs.Run.{all_words};
 ghost use Rattle.step_program.specs.Values.{contents};
-ghost use Rattle.flat_sim.specs.Kept as kept;
-ghost use Rattle.flat_sim.specs.States.{MemoriesFit, WordsFit};
+ghost use Rattle.held_state.specs.Kept as kept;
+ghost use Rattle.held_state.specs.States.{MemoriesFit, WordsFit};
 
 use dt_core::limits::MAX_WIDTH;
 use netlist::design::Memory;

@@ -5,14 +5,14 @@ ghost use Rattle.std.specs.List.{All};
 ghost use Rattle.netlist.specs.Fits.{IsWidth, DrivenFits, DrivenInOrder, RegistersInOrder};
 ghost use Rattle.netlist.specs.Run.{role_value};
 ghost use Rattle.step_program.specs.Plan.{held};
-ghost use Rattle.flat_sim.specs.Slots.{numbers};
-ghost use Rattle.flat_sim.specs.States.{RegistersFit};
+ghost use Rattle.held_state.specs.Slots.{numbers};
+ghost use Rattle.held_state.specs.States.{RegistersFit};
 ghost use Rattle.flat_sim.specs.Signals as bits;
 
-use crate::nodes::Nodes;
 use bit_ops::insert;
 use dt_core::bits::Bits;
 use dt_core::limits::MAX_WIDTH;
+use held_state::nodes::Nodes;
 use netlist::design::{DrivenPart, Range, RegisterPart, Role, Signal};
 use step_program::step::Slot;
 use step_program::words::SlotValues;

@@ -17,7 +17,7 @@ use Rattle.state_changes.specs.Log.{Log}
 use Rattle.state_changes.specs.declared.changes.Change.{Change}
 use Rattle.packed_rows.specs.Kept.{last_ones}
 use Rattle.design_names.specs.Shown.{flat_scope, flat_shown}
-use Rattle.flat_sim.specs.Back.{GoesBack, ChangeFits, newest}
+use Rattle.held_state.specs.Back.{GoesBack, ChangeFits, newest}
 use Rattle.flat_sim.specs.Moment.{Moment}
 use Rattle.std.specs.List.{All}
 use Rattle.waveform.specs.Vcd.{vcd_text}

@@ -15,9 +15,9 @@ use Rattle.netlist.specs.Laws.{SettlesOnce}
 use Rattle.state_changes.specs.Log.{Log}
 use Rattle.state_changes.specs.declared.changes.Change.{Change}
 use Rattle.packed_rows.specs.Kept.{last_ones}
-use Rattle.flat_sim.specs.Back.{LeadsBack, GoesBack, Notes}
+use Rattle.held_state.specs.Back.{LeadsBack, GoesBack, Notes}
 use Rattle.flat_sim.specs.Moment.{Moment}
-use Rattle.flat_sim.specs.Writes.{has_some}
+use Rattle.flat_sim.specs.Stops.{has_some}
 use Rattle.window_run.specs.Over.{state_at, fired_at}
 use Rattle.window_run.specs.Progress.{Failure, Progress}
 use Rattle.window_run.specs.Ran.{IsFirst, cycle_of, rows_run, RanTo}

@@ -11,8 +11,8 @@ use Rattle.netlist.specs.Fits.{IsWellFormed, IsInput}
 use Rattle.netlist.specs.declared.design.Signal.{Signal}
 use Rattle.net_compile.specs.Cycle.{input_widths, signal_width}
 use Rattle.packed_rows.specs.Packed.{Fits}
-use Rattle.flat_sim.proofs.InPlace.{some_at}
-use Rattle.flat_sim.proofs.Ran.{input_wide}
+use Rattle.held_state.proofs.InPlace.{some_at}
+use Rattle.held_state.proofs.Takes.{input_wide}
 
 -- ---- widths
 

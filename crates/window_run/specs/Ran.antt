@@ -4,7 +4,7 @@ use Rattle.netlist.specs.Design.{Flat}
 use Rattle.netlist.specs.Fits.{IsWellFormed}
 use Rattle.netlist.specs.Order.{IsOrder}
 use Rattle.packed_rows.specs.Kept.{last_ones}
-use Rattle.flat_sim.specs.Back.{GoesBack}
+use Rattle.held_state.specs.Back.{GoesBack}
 use Rattle.window_run.specs.Over.{state_at, fired_at}
 use Rattle.window_run.specs.Progress.{Failure, Progress}
 

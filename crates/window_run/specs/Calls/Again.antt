@@ -7,7 +7,7 @@ use Rattle.netlist.specs.Order.{IsOrder}
 use Rattle.netlist.specs.Run.{State}
 use Rattle.state_changes.specs.Log.{Log}
 use Rattle.state_changes.specs.declared.changes.Change.{Change}
-use Rattle.flat_sim.specs.Back.{GoesBack}
+use Rattle.held_state.specs.Back.{GoesBack}
 use Rattle.flat_sim.specs.Moment.{Moment}
 use Rattle.waveform.specs.Writer.{Writer, HasWritten}
 use Rattle.waveform.specs.declared.fault.VcdFault.{VcdFault}

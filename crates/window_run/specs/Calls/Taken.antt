@@ -4,7 +4,7 @@ use Rattle.netlist.specs.Run.{FlatSettles, flat_next, flat_fired}
 use Rattle.netlist.specs.Values.{Values}
 use Rattle.state_changes.specs.Log.{Log}
 use Rattle.state_changes.specs.declared.changes.Change.{Change}
-use Rattle.flat_sim.specs.Back.{Notes}
+use Rattle.held_state.specs.Back.{Notes}
 use Rattle.flat_sim.specs.Moment.{Moment}
 use Rattle.window_run.specs.Progress.{Failure}
 

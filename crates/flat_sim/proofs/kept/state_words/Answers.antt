@@ -1,7 +1,7 @@
 use Rattle.std.proofs.Common.{ℕ, [], ◌∷◌, ap, ◌∙◌, Vec, Global, arith}
 use Rattle.std.specs.Prelude.{map}
 use Rattle.std.proofs.lemmas.List.{map-append}
-use Rattle.flat_sim.proofs.Words.{kept_count}
+use Rattle.held_state.proofs.Words.{kept_count}
 use Rattle.flat_sim.proofs.Loops.{state_more}
 use Rattle.flat_sim.proofs.kept.state_words.Goals as goal
 

@@ -1,7 +1,7 @@
 use Rattle.std.proofs.Common.{◌≡◌, ℕ, ◌<◌, List, length, sym, ap, ◌∙◌, subst, Vec, Global, arith}
 use Rattle.std.specs.Prelude.{map, is_some, if◌then◌else◌}
 use Rattle.std.proofs.lemmas.List.{length-map}
-use Rattle.flat_sim.specs.States.{WordsFit}
+use Rattle.held_state.specs.States.{WordsFit}
 use Rattle.flat_sim.proofs.Loops.{fit_count, fit_at, state_item, words_more}
 use Rattle.flat_sim.proofs.kept.words_of.Goals as goal
 

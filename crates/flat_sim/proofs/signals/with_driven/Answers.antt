@@ -1,7 +1,7 @@
 use Rattle.std.proofs.Common.{◌≡◌, ◌<◌, length, get_or, refl, sym, ◌∙◌, arith}
 use Rattle.std.proofs.lemmas.List.Elements.{All-get_or}
 use Rattle.netlist.specs.Fits.{DrivenFits}
-use Rattle.flat_sim.proofs.Taken.{node_there}
+use Rattle.held_state.proofs.Taken.{node_there}
 use Rattle.flat_sim.proofs.Parts.{blank_driven, driven_before, driven_after}
 use Rattle.flat_sim.proofs.signals.with_driven.Goals as goal
 

@@ -6,9 +6,9 @@ use Rattle.netlist.specs.Fits.{IsWidth}
 use Rattle.step_program.specs.Values.{slot_value}
 use Rattle.step_program.specs.Plan.{held}
 use Rattle.net_compile.proofs.GivenSlots.{blank}
-use Rattle.flat_sim.specs.Slots.{numbers}
+use Rattle.held_state.specs.Slots.{numbers}
 use Rattle.flat_sim.specs.Signals.{with_bits, with_registers}
-use Rattle.flat_sim.proofs.Settles.{register_fits, number_at}
+use Rattle.held_state.proofs.GivenLaws.{register_fits, number_at}
 use Rattle.flat_sim.proofs.Loops.{one_more}
 use Rattle.flat_sim.proofs.Parts.{registers_before, registers_after, registers_more}
 use Rattle.flat_sim.proofs.signals.with_registers.Goals as goal

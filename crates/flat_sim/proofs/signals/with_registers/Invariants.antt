@@ -1,6 +1,6 @@
 use Rattle.std.proofs.Common.{◌≡◌, drop}
 use Rattle.step_program.specs.Plan.{held}
-use Rattle.flat_sim.specs.Slots.{numbers}
+use Rattle.held_state.specs.Slots.{numbers}
 use Rattle.flat_sim.specs.Signals.{with_registers}
 use Rattle.flat_sim.proofs.signals.with_registers.Given as goal
 

@@ -5,10 +5,10 @@ use Rattle.std.proofs.lemmas.List.{with_items_is}
 use Rattle.netlist.specs.Run.{flat_next, after_writes}
 use Rattle.step_program.specs.Values.{contents}
 use Rattle.step_program.specs.Plan.{held}
-use Rattle.flat_sim.specs.Slots.{numbers}
-use Rattle.flat_sim.specs.Kept.{AllKept}
+use Rattle.held_state.specs.Slots.{numbers}
+use Rattle.held_state.specs.Kept.{AllKept}
 use Rattle.flat_sim.specs.Inside.{HasSettled, values_of, state_of}
-use Rattle.flat_sim.proofs.Words.{kept_count}
+use Rattle.held_state.proofs.Words.{kept_count}
 use Rattle.flat_sim.proofs.Ran.{state_in}
 use Rattle.flat_sim.proofs.Advances.{Advanced, advanced, was_settled}
 use Rattle.flat_sim.proofs.sim.Sim.advance.Goals as goal

@@ -2,8 +2,8 @@ use Rattle.std.proofs.Common.{◌≡◌, ℕ, ap, ◌∙◌, subst, Vec, Global}
 use Rattle.std.specs.Prelude.{map, IfOk, None}
 use Rattle.netlist.specs.Run.{all_words}
 use Rattle.step_program.specs.Values.{contents}
-use Rattle.flat_sim.specs.Kept.{state_words}
-use Rattle.flat_sim.proofs.Words.{state_same}
+use Rattle.held_state.specs.Kept.{state_words}
+use Rattle.held_state.proofs.Words.{state_same}
 use Rattle.flat_sim.proofs.Starts.{state}
 use Rattle.flat_sim.proofs.sim.Sim.at.Goals as goal
 

@@ -2,7 +2,7 @@ use Rattle.std.proofs.Common.{◌≡◌, true, sym, ap, ◌∙◌, subst}
 use Rattle.std.specs.Prelude.{if◌then◌else◌, Some, None, IsSome, IsSomeAnd}
 use Rattle.netlist.specs.Run.{flat_fired, blocks_fired}
 use Rattle.step_program.specs.Plan.{held}
-use Rattle.flat_sim.specs.Writes.{has_some}
+use Rattle.flat_sim.specs.Stops.{has_some}
 use Rattle.flat_sim.specs.Stops.{some_holds}
 use Rattle.flat_sim.specs.Inside.{HasSettled, values_of}
 use Rattle.flat_sim.proofs.Advances.{was_settled}

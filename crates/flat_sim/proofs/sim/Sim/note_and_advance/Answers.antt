@@ -5,16 +5,16 @@ use Rattle.std.proofs.lemmas.List.{with_items_is}
 use Rattle.netlist.specs.Run.{flat_next, after_writes}
 use Rattle.step_program.specs.Values.{contents}
 use Rattle.step_program.specs.Plan.{held}
-use Rattle.flat_sim.specs.Back.{LeadsBack}
-use Rattle.flat_sim.specs.Slots.{numbers}
-use Rattle.flat_sim.specs.Kept.{AllKept}
-use Rattle.flat_sim.specs.Moves.{register_numbers, next_numbers}
-use Rattle.flat_sim.specs.Noting.{AddsWords, AddsRegisters}
+use Rattle.held_state.specs.Back.{LeadsBack}
+use Rattle.held_state.specs.Slots.{numbers}
+use Rattle.held_state.specs.Kept.{AllKept}
+use Rattle.held_state.specs.Moves.{register_numbers, next_numbers}
+use Rattle.held_state.specs.Noting.{AddsWords, AddsRegisters}
 use Rattle.flat_sim.specs.Inside.{HasSettled, values_of, state_of}
-use Rattle.flat_sim.proofs.Words.{kept_count}
+use Rattle.held_state.proofs.Words.{kept_count}
 use Rattle.flat_sim.proofs.Ran.{state_in}
 use Rattle.flat_sim.proofs.Advances.{Advanced, advanced, was_settled}
-use Rattle.flat_sim.proofs.NotingLaws.{cycle_noted}
+use Rattle.held_state.proofs.NotingLaws.{cycle_noted}
 use Rattle.flat_sim.proofs.sim.Sim.note_and_advance.Goals as goal
 
 pub invariant_of-self : goal.invariant_of-self

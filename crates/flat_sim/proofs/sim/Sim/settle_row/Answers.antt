@@ -4,12 +4,13 @@ use Rattle.netlist.specs.Run.{FlatSettles}
 use Rattle.step_program.specs.Values.{contents}
 use Rattle.step_program.specs.Plan.{IsReady, held, given_in, ran}
 use Rattle.net_compile.specs.Cycle.{RowFits}
-use Rattle.flat_sim.specs.Slots.{numbers, with_numbers, AllTake}
-use Rattle.flat_sim.specs.States.{RegistersFit}
+use Rattle.held_state.specs.Slots.{numbers, with_numbers, AllTake}
+use Rattle.held_state.specs.States.{RegistersFit}
 use Rattle.netlist.specs.Values.{Values}
 use Rattle.flat_sim.proofs.Settles.{Settled, valued}
-use Rattle.flat_sim.proofs.Machines.{put_row}
-use Rattle.flat_sim.proofs.Ran.{RanOver, ran_over, row_takes, state_in}
+use Rattle.held_state.proofs.Machines.{put_row}
+use Rattle.held_state.proofs.Takes.{row_takes}
+use Rattle.flat_sim.proofs.Ran.{RanOver, ran_over, state_in}
 use Rattle.flat_sim.proofs.sim.Sim.settle_row.Goals as goal
 
 pub put_all-requires : goal.put_all-requires

@@ -3,9 +3,9 @@ use Rattle.std.specs.Prelude.{map, IfOk, None}
 use Rattle.netlist.specs.declared.design.RegisterPart.{RegisterPart}
 use Rattle.netlist.specs.Plain.{PlainMemory}
 use Rattle.step_program.specs.Values.{contents}
-use Rattle.flat_sim.specs.Kept.{state_words}
-use Rattle.flat_sim.specs.States.{RegistersFit}
-use Rattle.flat_sim.proofs.Words.{first_same}
+use Rattle.held_state.specs.Kept.{state_words}
+use Rattle.held_state.specs.States.{RegistersFit}
+use Rattle.held_state.proofs.Words.{first_same}
 use Rattle.flat_sim.proofs.Starts.{initial_fits, state}
 use Rattle.flat_sim.proofs.sim.Sim.start.Goals as goal
 

@@ -4,7 +4,7 @@ use Rattle.netlist.specs.Run.{role_value}
 use Rattle.netlist.specs.Values.{node_values}
 use Rattle.net_compile.specs.Cycle.{signal_width}
 use Rattle.step_program.specs.Plan.{held}
-use Rattle.flat_sim.specs.Slots.{numbers}
+use Rattle.held_state.specs.Slots.{numbers}
 use Rattle.flat_sim.specs.Signals.{with_registers, with_driven}
 use Rattle.flat_sim.specs.Inside.{HasSettled, values_of, state_of, row_of, nodes_of}
 use Rattle.flat_sim.proofs.Advances.{was_settled}

@@ -3,16 +3,16 @@ use Rattle.std.specs.List.{All}
 use Rattle.std.specs.Prelude.{map, None}
 use Rattle.step_program.specs.Values.{contents}
 use Rattle.step_program.specs.Plan.{IsReady, held}
-use Rattle.flat_sim.specs.Slots.{with_numbers, AllTake}
-use Rattle.flat_sim.specs.Moves.{IsCommit, next_slots}
-use Rattle.flat_sim.specs.Kept.{state_words}
-use Rattle.flat_sim.specs.States.{RegistersFit}
-use Rattle.flat_sim.proofs.Settles.{slot_count, register_count}
-use Rattle.flat_sim.proofs.Machines.{PutState, put_state}
+use Rattle.held_state.specs.Slots.{with_numbers, AllTake}
+use Rattle.held_state.specs.Moves.{IsCommit, next_slots}
+use Rattle.held_state.specs.Kept.{state_words}
+use Rattle.held_state.specs.States.{RegistersFit}
+use Rattle.held_state.proofs.GivenLaws.{slot_count, register_count}
+use Rattle.held_state.proofs.Machines.{PutState, put_state}
 use Rattle.flat_sim.specs.Stops.{stop_slots}
 use Rattle.flat_sim.proofs.Fires.{conditions_there}
-use Rattle.flat_sim.proofs.Taken.{next_there}
-use Rattle.flat_sim.proofs.Ran.{state_takes}
+use Rattle.held_state.proofs.Taken.{next_there}
+use Rattle.held_state.proofs.Takes.{state_takes}
 use Rattle.flat_sim.proofs.sim.Sim.with.Goals as goal
 
 pub first_slots-given-requires : goal.first_slots-given-requires

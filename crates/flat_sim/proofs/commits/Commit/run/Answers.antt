@@ -1,8 +1,0 @@
-use Rattle.std.proofs.Common.{List, subst, sym}
-use Rattle.flat_sim.specs.declared.commits.Move.{Move}
-use Rattle.flat_sim.specs.Moves.{AreInTurn}
-use Rattle.flat_sim.proofs.commits.Commit.run.Goals as goal
-
-pub move_all-requires-clause-turn : goal.move_all-requires-clause-turn
-move_all-requires-clause-turn c is =
-    subst (λ (ms : List Move). AreInTurn ms) (sym c.deref.ensures.value) (c.requires.can.turn is)

@@ -1,0 +1,10 @@
+pub mod Puts
+pub mod Words
+pub mod GivenLaws
+pub mod Machines
+pub mod Takes
+pub mod Taken
+pub mod InPlace
+pub mod InTurn
+pub mod NotingLaws
+pub mod UndoingLaws
