@@ -2,7 +2,8 @@
 
 use crate::chance::Chance;
 use crate::growing::{ALL, Growing, Part, Source, one};
-use draft_maker::{DraftMaker, range};
+use crate::sketch::Sketch;
+use draft_maker::range;
 use dt_core::place::Place;
 use dt_core::text::Text;
 use netlist::design::{Base, Effect, MemoryWrite, Role, Shown};
@@ -23,7 +24,7 @@ impl Growing {
     fn add_signal(&mut self) -> Result<(), Fail> {
         let width = self.chance.width();
         let kept = self.chance.bits(width);
-        let signal = self.maker.signal(width, Role::Inner, kept)?;
+        let signal = self.sketch.signal(width, Role::Inner, kept);
         let mut low = 0;
         for _ in 0..width {
             let left = width.saturating_sub(low);
@@ -57,10 +58,10 @@ impl Growing {
 
     // A clock name, some data inputs and other signals.
     fn add_signals(&mut self) -> Result<(), Fail> {
-        self.maker.signal(1, Role::Clock, 0)?;
+        self.sketch.signal(1, Role::Clock, 0);
         for _ in 0..=self.chance.below(3) {
             let width = self.chance.width();
-            self.maker.input(width)?;
+            self.sketch.input(width);
         }
         for _ in 0..=self.chance.below(7) {
             self.add_signal()?;
@@ -81,9 +82,9 @@ impl Growing {
         } else {
             Some(self.chance.below(blocks))
         };
-        let memory = self.maker.memory(width, first, words, writer)?;
+        let memory = self.sketch.memory(width, first, words, writer);
         if self.chance.one_of(3) {
-            if let Some(memory) = self.maker.draft.memories.get_mut(memory as usize) {
+            if let Some(memory) = self.sketch.maker.draft.memories.get_mut(memory as usize) {
                 let first = memory.first;
                 memory.first = memory.last;
                 memory.last = first;
@@ -97,8 +98,8 @@ impl Growing {
         let parts = self.parts.as_slice().to_vec(alloc)?;
         for part in &parts {
             if let Source::Driven(level) = part.source {
-                let node = self.several(level, part.range.width)?;
-                self.maker.drive(part.range, node)?;
+                let node = self.several(level, part.range.width);
+                self.sketch.drive(part.range, node);
             }
         }
         Ok(())
@@ -110,20 +111,20 @@ impl Growing {
         for part in &parts {
             if let Source::Register = part.source {
                 let width = part.range.width;
-                let next = self.next_node(&parts, width)?;
+                let next = self.next_node(&parts, width);
                 let block = self.chance.below(blocks);
                 let initial = self.chance.bits(width);
-                self.maker.register(part.range, block, next, initial)?;
+                self.sketch.register(part.range, block, next, initial);
             }
         }
         Ok(())
     }
 
     // A next node: of any kind, or another part's bits.
-    fn next_node(&mut self, parts: &[Part], width: u32) -> Result<u32, Fail> {
+    fn next_node(&mut self, parts: &[Part], width: u32) -> u32 {
         if self.chance.one_of(3) {
             if let Some(other) = one(&mut self.chance, parts) {
-                let node = self.whole(other)?;
+                let node = self.whole(other);
                 return self.fitted(ALL, node, width);
             }
         }
@@ -131,61 +132,60 @@ impl Growing {
     }
 
     // A write to each memory that some block writes, and at times a second one to the same word.
-    fn add_writes(&mut self) -> Result<(), Fail> {
-        let count = u32::try_from(self.maker.draft.memories.len()).unwrap_or(0);
+    fn add_writes(&mut self) {
+        let count = u32::try_from(self.sketch.maker.draft.memories.len()).unwrap_or(0);
         for _ in 0..self.chance.below(5) {
             let memory = self.chance.below(count);
             let found = self
+                .sketch
                 .maker
                 .draft
                 .memories
                 .get(memory as usize)
                 .and_then(|memory| memory.writer);
             if let Some(block) = found {
-                self.add_write(memory, block)?;
+                self.add_write(memory, block);
             }
         }
-        Ok(())
     }
 
-    fn add_write(&mut self, memory: u32, block: u32) -> Result<(), Fail> {
-        let mut index = self.index(ALL)?;
+    fn add_write(&mut self, memory: u32, block: u32) {
+        let mut index = self.index(ALL);
         if self.chance.one_of(2) {
-            index.node = self.fitted(ALL, index.node, 3)?;
+            index.node = self.fitted(ALL, index.node, 3);
         }
         let mut write = MemoryWrite {
             block,
-            condition: self.any(ALL)?,
+            condition: self.any(ALL),
             memory,
             index,
-            place: self.place(ALL)?,
+            place: self.place(ALL),
             width: 1,
-            value: self.any(ALL)?,
+            value: self.any(ALL),
         };
         write.width = self.width(write.value);
-        self.maker.write(write)?;
+        self.sketch.write(write);
         if self.chance.one_of(2) {
-            write.value = self.any(ALL)?;
+            write.value = self.any(ALL);
             write.width = self.width(write.value);
-            self.maker.write(write)?;
+            self.sketch.write(write);
         }
-        Ok(())
     }
 
     // An event of the last block.
     fn add_event(&mut self, alloc: Global) -> Result<(), Fail> {
-        let condition = self.any(ALL)?;
+        let condition = self.any(ALL);
         let effect = match self.chance.below(3) {
             0 => Effect::Said(Text::copied(alloc, b"said ")?),
             1 => Effect::Showed(Shown {
-                node: self.operand(ALL)?,
+                node: self.operand(ALL),
                 signed: self.chance.one_of(2),
                 base: one(&mut self.chance, &BASES).unwrap_or(Base::Decimal),
                 fewest: self.chance.one_of(2),
             }),
             _ => Effect::Stopped(Place { token: 0, line: 1 }, false),
         };
-        self.maker.event(condition, effect)?;
+        self.sketch.event(condition, effect);
         Ok(())
     }
 }
@@ -193,7 +193,7 @@ impl Growing {
 /// The draft of a number.
 pub fn draft(alloc: Global, seed: u32) -> Result<FlatDraft, Fail> {
     let mut growing = Growing {
-        maker: DraftMaker::new(alloc)?,
+        sketch: Sketch::new(alloc)?,
         parts: Vec::new(alloc),
         levels: Vec::new(alloc),
         chance: Chance::new(u64::from(seed)),
@@ -205,12 +205,12 @@ pub fn draft(alloc: Global, seed: u32) -> Result<FlatDraft, Fail> {
     }
     growing.add_driven(alloc)?;
     growing.add_registers(alloc, blocks)?;
-    growing.add_writes()?;
+    growing.add_writes();
     for _ in 0..blocks {
-        growing.maker.block()?;
+        growing.sketch.block();
         for _ in 0..growing.chance.below(7) {
             growing.add_event(alloc)?;
         }
     }
-    Ok(growing.maker.draft)
+    growing.sketch.draft()
 }

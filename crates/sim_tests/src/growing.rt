@@ -1,12 +1,12 @@
 //! Nodes by chance, of a draft in the making.
 
 use crate::chance::Chance;
+use crate::sketch::Sketch;
 use bit_ops::{Binary, Unary, unary};
-use draft_maker::{DraftMaker, range};
+use draft_maker::range;
 use dt_core::bits::Bits;
 use netlist::design::{Index, Range};
 use netlist::node::Operation;
-use std::test::Fail;
 
 static UNARY: [Unary; 10] = [
     Unary::Plus,
@@ -64,7 +64,7 @@ pub const ALL: u32 = 1_000_000;
 /// A draft in the making: its parts, of each node the level of what it may read, and the numbers by chance.
 #[derive(Drop)]
 pub struct Growing {
-    pub maker: DraftMaker,
+    pub sketch: Sketch,
     pub parts: Vec<Part>,
     pub levels: Vec<u32>,
     pub chance: Chance,
@@ -89,14 +89,16 @@ fn share_a_bit(a: Range, b: Range) -> bool {
 
 impl Growing {
     // A node of a level.
-    fn push(&mut self, level: u32, width: u32, operation: Operation) -> Result<u32, Fail> {
-        self.levels.push(level)?;
-        Ok(self.maker.node(width, operation)?)
+    fn push(&mut self, level: u32, width: u32, operation: Operation) -> u32 {
+        let kept = self.levels.push(level).is_ok();
+        self.sketch.expect(kept);
+        self.sketch.node(width, operation)
     }
 
     /// The width of a node.
     pub fn width(&self, node: u32) -> u32 {
-        self.maker
+        self.sketch
+            .maker
             .draft
             .nodes
             .get(node as usize)
@@ -104,25 +106,26 @@ impl Growing {
     }
 
     /// A node as an index, with a sign or not.
-    pub fn index(&mut self, level: u32) -> Result<Index, Fail> {
-        let node = self.operand(level)?;
+    pub fn index(&mut self, level: u32) -> Index {
+        let node = self.operand(level);
         let signed = self.chance.one_of(2);
-        Ok(Index { node, signed })
+        Index { node, signed }
     }
 
     // A number.
-    fn constant(&mut self, level: u32) -> Result<u32, Fail> {
+    fn constant(&mut self, level: u32) -> u32 {
         let width = self.chance.width();
         let value = self.chance.bits(width);
         self.push(level, width, Operation::Constant { value })
     }
 
     // Bits of a signal by chance, that reach into no driven part of this level or a higher one; else a number.
-    fn bits(&mut self, level: u32) -> Result<u32, Fail> {
+    fn bits(&mut self, level: u32) -> u32 {
         for _ in 0..6 {
-            let count = u32::try_from(self.maker.draft.signals.len()).unwrap_or(0);
+            let count = u32::try_from(self.sketch.maker.draft.signals.len()).unwrap_or(0);
             let signal = self.chance.below(count);
             let whole = self
+                .sketch
                 .maker
                 .draft
                 .signals
@@ -156,16 +159,16 @@ impl Growing {
     }
 
     // A word of a memory, if there is one; else bits.
-    fn word(&mut self, level: u32) -> Result<u32, Fail> {
-        let count = u32::try_from(self.maker.draft.memories.len()).unwrap_or(0);
+    fn word(&mut self, level: u32) -> u32 {
+        let count = u32::try_from(self.sketch.maker.draft.memories.len()).unwrap_or(0);
         let memory = self.chance.below(count);
-        let width = match self.maker.draft.memories.get(memory as usize) {
+        let width = match self.sketch.maker.draft.memories.get(memory as usize) {
             Some(memory) => memory.width,
             None => return self.bits(level),
         };
-        let node = self.operand(level)?;
+        let node = self.operand(level);
         let node = if self.chance.one_of(2) {
-            self.fitted(level, node, 4)?
+            self.fitted(level, node, 4)
         } else {
             node
         };
@@ -174,7 +177,7 @@ impl Growing {
         self.push(level, width, Operation::Word { memory, index })
     }
 
-    fn leaf(&mut self, level: u32) -> Result<u32, Fail> {
+    fn leaf(&mut self, level: u32) -> u32 {
         match self.chance.below(6) {
             0 => self.constant(level),
             1 => self.word(level),
@@ -183,7 +186,7 @@ impl Growing {
     }
 
     /// A node that may be read at this level; most often one of the last ones.
-    pub fn operand(&mut self, level: u32) -> Result<u32, Fail> {
+    pub fn operand(&mut self, level: u32) -> u32 {
         let count = u32::try_from(self.levels.len()).unwrap_or(0);
         for _ in 0..6 {
             let back = if self.chance.one_of(2) {
@@ -197,17 +200,17 @@ impl Growing {
                 .get(node as usize)
                 .is_some_and(|of| *of <= level)
             {
-                return Ok(node);
+                return node;
             }
         }
         self.bits(level)
     }
 
     /// A node at a width.
-    pub fn fitted(&mut self, level: u32, of: u32, width: u32) -> Result<u32, Fail> {
+    pub fn fitted(&mut self, level: u32, of: u32, width: u32) -> u32 {
         let now = self.width(of);
         if now == width {
-            Ok(of)
+            of
         } else if width < now {
             self.push(level, width, Operation::Cut { of })
         } else {
@@ -216,27 +219,27 @@ impl Growing {
         }
     }
     // An operator on one node.
-    fn on_one(&mut self, level: u32) -> Result<u32, Fail> {
-        let of = self.operand(level)?;
+    fn on_one(&mut self, level: u32) -> u32 {
+        let of = self.operand(level);
         let operator = one(&mut self.chance, &UNARY).unwrap_or(Unary::Not);
         let width = unary_width(operator, self.width(of));
         self.push(level, width, Operation::Unary { operator, of })
     }
 
     // An operator on two nodes, of one width where it wants that.
-    fn on_two(&mut self, level: u32) -> Result<u32, Fail> {
-        let left = self.operand(level)?;
-        let right = self.operand(level)?;
+    fn on_two(&mut self, level: u32) -> u32 {
+        let left = self.operand(level);
+        let right = self.operand(level);
         let operator = one(&mut self.chance, &BINARY).unwrap_or(Binary::Add);
         let signed = self.chance.one_of(2);
         let own = self.width(left);
         let (right, width) = match operator {
-            Binary::Shl | Binary::Shr | Binary::Sar => (self.distance(level, right)?, own),
+            Binary::Shl | Binary::Shr | Binary::Sar => (self.distance(level, right), own),
             Binary::LogicAnd | Binary::LogicOr => (right, 1),
             Binary::Lt | Binary::Le | Binary::Gt | Binary::Ge | Binary::Eq | Binary::Ne => {
-                (self.fitted(level, right, own)?, 1)
+                (self.fitted(level, right, own), 1)
             }
-            _ => (self.fitted(level, right, own)?, own),
+            _ => (self.fitted(level, right, own), own),
         };
         let operation = Operation::Binary {
             operator,
@@ -248,48 +251,48 @@ impl Growing {
     }
 
     // A node as a distance, which is small at times.
-    fn distance(&mut self, level: u32, of: u32) -> Result<u32, Fail> {
+    fn distance(&mut self, level: u32, of: u32) -> u32 {
         if self.chance.one_of(2) {
-            return Ok(of);
+            return of;
         }
         self.fitted(level, of, 6)
     }
 
     /// A node as a place, which is a small number at times.
-    pub fn place(&mut self, level: u32) -> Result<Index, Fail> {
-        let index = self.index(level)?;
+    pub fn place(&mut self, level: u32) -> Index {
+        let index = self.index(level);
         match self.chance.below(3) {
             0 => {
                 let width = 7;
                 let value = self.chance.bits(6);
-                let node = self.push(level, width, Operation::Constant { value })?;
-                Ok(Index { node, ..index })
+                let node = self.push(level, width, Operation::Constant { value });
+                Index { node, ..index }
             }
             1 => {
-                let node = self.fitted(level, index.node, 6)?;
-                Ok(Index { node, ..index })
+                let node = self.fitted(level, index.node, 6);
+                Index { node, ..index }
             }
-            _ => Ok(index),
+            _ => index,
         }
     }
 
     // Some bits of a node, or a node with other bits in it.
-    fn at_place(&mut self, level: u32) -> Result<u32, Fail> {
-        let of = self.operand(level)?;
-        let place = self.place(level)?;
+    fn at_place(&mut self, level: u32) -> u32 {
+        let of = self.operand(level);
+        let place = self.place(level);
         if self.chance.one_of(2) {
             let width = self.chance.width();
             return self.push(level, width, Operation::Select { of, place });
         }
-        let part = self.operand(level)?;
+        let part = self.operand(level);
         let width = self.width(of);
         self.push(level, width, Operation::Insert { of, place, part })
     }
 
     // Two nodes side by side, if they are no wider than a vector; else bits.
-    fn beside(&mut self, level: u32) -> Result<u32, Fail> {
-        let left = self.operand(level)?;
-        let right = self.operand(level)?;
+    fn beside(&mut self, level: u32) -> u32 {
+        let left = self.operand(level);
+        let right = self.operand(level);
         let width = self.width(left).saturating_add(self.width(right));
         if width > 128 {
             return self.bits(level);
@@ -298,10 +301,10 @@ impl Growing {
     }
 
     // One of two nodes, or one and another that changes nothing.
-    fn choice(&mut self, level: u32) -> Result<u32, Fail> {
-        let yes = self.operand(level)?;
+    fn choice(&mut self, level: u32) -> u32 {
+        let yes = self.operand(level);
         let width = self.width(yes);
-        let condition = self.operand(level)?;
+        let condition = self.operand(level);
         if self.chance.one_of(6) {
             return self.push(
                 level,
@@ -312,20 +315,20 @@ impl Growing {
                 },
             );
         }
-        let no = self.operand(level)?;
-        let no = self.fitted(level, no, width)?;
+        let no = self.operand(level);
+        let no = self.fitted(level, no, width);
         let operation = Operation::Choose { condition, yes, no };
         self.push(level, width, operation)
     }
 
     /// The bits of a part.
-    pub fn whole(&mut self, part: Part) -> Result<u32, Fail> {
+    pub fn whole(&mut self, part: Part) -> u32 {
         let range = part.range;
         self.push(ALL, range.width, Operation::Bits { range })
     }
 
     /// A node of any kind that may be read at this level.
-    pub fn any(&mut self, level: u32) -> Result<u32, Fail> {
+    pub fn any(&mut self, level: u32) -> u32 {
         match self.chance.below(9) {
             0 | 1 => self.leaf(level),
             2 => self.on_one(level),
@@ -334,7 +337,7 @@ impl Growing {
             6 => self.beside(level),
             7 => self.choice(level),
             _ => {
-                let of = self.operand(level)?;
+                let of = self.operand(level);
                 let width = self.chance.width();
                 self.fitted(level, of, width)
             }
@@ -342,10 +345,10 @@ impl Growing {
     }
 
     /// Some nodes; the last one, at a width.
-    pub fn several(&mut self, level: u32, width: u32) -> Result<u32, Fail> {
-        let mut last = self.leaf(level)?;
+    pub fn several(&mut self, level: u32, width: u32) -> u32 {
+        let mut last = self.leaf(level);
         for _ in 0..self.chance.below(5) {
-            last = self.any(level)?;
+            last = self.any(level);
         }
         self.fitted(level, last, width)
     }

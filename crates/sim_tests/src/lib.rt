@@ -18,6 +18,8 @@ mod growing;
 #[cfg(test)]
 mod reading;
 #[cfg(test)]
+mod sketch;
+#[cfg(test)]
 mod tests;
 #[cfg(test)]
 mod values;
