@@ -9,7 +9,7 @@ use Rattle.stimulus.specs.declared.refusal.RefusalKind.TheVariants as k
 use Rattle.stimulus.specs.declared.refusal.Refusal.{Refusal}
 use Rattle.stimulus.specs.Refusals.{is_truncated}
 use Rattle.stimulus.specs.Stimulus as text
-use Rattle.stimulus.proofs.GluedLaws.{stays_refused}
+use Rattle.stimulus_laws.proofs.GluedLaws.{stays_refused}
 use Rattle.talk.specs.Words.{Job, Asks}
 use Rattle.talk.proofs.WordsLaws.{one_job, bad_is_no_line}
 use Rattle.dt_io.specs.Files.{IsLong}

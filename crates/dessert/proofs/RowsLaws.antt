@@ -20,7 +20,7 @@ use Rattle.stimulus.specs.Lines.{text_of}
 use Rattle.stimulus.specs.Fits.{AreNamed, Fit, AreRows}
 use Rattle.stimulus.specs.Reader.{Reader}
 use Rattle.stimulus.specs.Reads.{Reads, RowIs}
-use Rattle.stimulus.proofs.FitLaws.{lines_fit}
+use Rattle.stimulus_laws.proofs.FitLaws.{lines_fit}
 use Rattle.dessert.specs.Outside.{SourceAt}
 use Rattle.dessert.specs.Inputs.{bits_named}
 use Rattle.dessert.specs.Steps.{rows_in}

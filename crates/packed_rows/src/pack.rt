@@ -8,8 +8,8 @@ ghost use Rattle.packed_rows.specs.Words.{IsHeld, place, written};
 use crate::held::{Held, high_part, low_part};
 use dt_core::limits::MAX_WIDTH;
 
-/// Packs a row of values of these widths into words, the first value at the lowest bits of the first word. Fewer bits than
-/// a word has are packed without a look at where a word ends.
+/// Packs a row of values of these widths into words, the first value at the lowest bits of the first word. Fewer bits
+/// than a word has are packed without a look at where a word ends.
 pub(crate) fn pack(widths: &[u32], is_short: bool, row: &[u128], words: &mut [u64])
     requires wide { All (λ w. w ≤ MAX_WIDTH) widths.now }
     requires short { IsTrue is_short → sum widths.now < 64 }

@@ -5,6 +5,4 @@ pub mod TurnLaws
 pub mod SingleLaws
 pub mod StandLaws
 pub mod FaultLaws
-pub mod GluedLaws
-pub mod FitLaws
 mod StimulusExamples

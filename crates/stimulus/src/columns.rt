@@ -15,8 +15,8 @@ use dt_core::limits::MAX_WIDTH;
 use std::alloc::Global;
 use std::marker::Model;
 
-/// The widths of a row's values with the limits of their digits, the place of each input's value among them, whether the
-/// values are in order of the ports, and the values that were read last with the row where they aren't.
+/// The widths of a row's values with the limits of their digits, the place of each input's value among them, whether they
+/// are in order of the ports, and the values that were read last, with the row where they aren't.
 #[derive(Drop)]
 pub(crate) struct Columns {
     widths: Vec<u32>,
@@ -151,7 +151,8 @@ fn gather(values: &[u128], places: &[usize], in_order: bool, row: &mut [u128])
     requires within { All (λ place. place < length values.now) places.now }
     requires order { IsTrue in_order → IsInOrder (length values.now) places.now }
     ensures size { length row.new ≡ length row.old }
-    ensures row { row_of_values in_order values.now row.new ≡ map (λ place. slice_index_or values.now place 0) places.now }
+    ensures row { row_of_values in_order values.now row.new
+        ≡ map (λ place. slice_index_or values.now place 0) places.now }
 {
     if in_order {
         return;

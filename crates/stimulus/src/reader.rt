@@ -70,7 +70,8 @@ impl StimReader {
         self.live
     }
 
-    /// Reads the next row into `row()`: true, or false at the end of a whole stimulus. It takes memory at the first call alone.
+    /// Reads the next row into `row()`: true, or false at the end of a whole stimulus. It takes memory at the first call
+    /// alone.
     pub fn next_row<S: Source>(&mut self, alloc: Global, source: &mut S) -> Result<bool, StimFault>
         requires { IsTrue self.old.live }
         ensures answer { (taken : List ℕ) (given : List (List ℕ)) → Reads self.old taken given

@@ -1,4 +1,4 @@
-//! Rows of single digits: each value is one digit, so the end of the row is known before it is read, and it's read at once.
+//! Rows of single digits: each value is one digit, so a row's end is known before it is read, and it's read at once.
 
 ghost use Rattle.std.specs.Prelude.{◌≡◌, ◌+◌, ◌-◌, ◌*◌, ◌<◌, ◌≤◌, ◌==◌, ◌||◌, length, map, slice_index, IsTrue, IfOk};
 ghost use Rattle.stimulus.specs.Calls.Single as single;
@@ -44,8 +44,8 @@ fn is_apart(byte: u8, last: bool) -> bool
     last || byte == b' '
 }
 
-/// Reads a row of single digits that stands at the head of the bytes, each below its limit; false where none does, and then
-/// some values may be others.
+/// Reads a row of single digits, each below its limit, that stands at the head of the bytes; false where none does, and
+/// then some values may be others.
 pub(crate) fn read_single(bytes: &[u8], limits: &[u8], values: &mut [u128]) -> bool
     requires size { length values.old ≡ length limits.now }
     ensures size { length values.new ≡ length values.old }

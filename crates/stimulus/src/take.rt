@@ -114,8 +114,8 @@ pub(crate) fn take_head<S: Source>(
     }
 }
 
-/// Takes a row of single digits, where one stands whole at the head of the bytes held, as the line of this number from 0:
-/// whether it did.
+/// Takes a row of single digits, where one stands whole at the head of the bytes held, as the line of this number from
+/// 0: whether it did.
 pub(crate) fn take_single(number: u64, columns: &mut Columns, buffer: &mut Buffer) -> bool
     ensures taken { IsTrue result → TakesRow number columns.old buffer.old columns.new buffer.new }
     ensures few { IsTrue result → (2 ≤ number) × (number < MAX_ROWS + 2) }

@@ -32,7 +32,8 @@ pub record ReadsSingle (old new : Layout) (bytes : List ℕ) (n : ℕ) : Type 0 
 
 -- places from 0 on, so many: at each its own number
 abbrev pub IsInOrder : ℕ → List ℕ → Type 0
-IsInOrder n places = (values : List ℕ) → length values ≡ n → map (λ place. slice_index_or values place 0) places ≡ values
+IsInOrder n places =
+    (values : List ℕ) → length values ≡ n → map (λ place. slice_index_or values place 0) places ≡ values
 
 -- the row of values that are in order of the ports, or of those that were put into it
 abbrev pub row_of_values : Bool → List ℕ → List ℕ → List ℕ

@@ -1,8 +1,8 @@
 use Rattle.std.proofs.Common.{sym, subst}
 use Rattle.stimulus.specs.Fits.{AreRows}
-use Rattle.stimulus.proofs.GluedLaws.{stays_refused, may_go_on}
-use Rattle.stimulus.proofs.FitLaws.{lines_fit}
-use Rattle.stimulus.proofs.laws.stimulus_law.Goals as goal
+use Rattle.stimulus_laws.proofs.GluedLaws.{stays_refused, may_go_on}
+use Rattle.stimulus_laws.proofs.FitLaws.{lines_fit}
+use Rattle.stimulus_laws.proofs.stimulus_law.Goals as goal
 
 pub returns-clause-stays : goal.returns-clause-stays
 returns-clause-stays c = stays_refused

@@ -1,0 +1,2 @@
+pub mod GluedLaws
+pub mod FitLaws
