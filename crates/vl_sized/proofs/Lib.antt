@@ -1,0 +1,13 @@
+mod Constants
+mod Copies
+mod Covered
+mod Evaluated
+mod Integers
+mod Joints
+mod Judged
+mod Least
+mod NodeViews
+mod Senses
+mod Told
+mod Widths
+mod Worths

@@ -1,0 +1,9 @@
+pub mod Answered
+pub mod Moments
+pub mod Nodes
+pub mod Parts
+pub mod Sensed
+pub mod Plain
+pub mod Told
+pub mod Wholes
+pub mod Worth
