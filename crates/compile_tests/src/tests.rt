@@ -1,19 +1,15 @@
 //! Designs of constants alone, so that no slot is given.
 
-use crate::draft::{add_node, add_part, add_signal, empty};
 use bit_ops::{Binary, Unary};
 use comb_order::order;
+use draft_maker::{DraftMaker, range};
 use net_compile::compile;
 use net_compile::compiled::Compiled;
-use netlist::design::{Index, Range};
+use netlist::design::{Index, Range, Role};
 use netlist::flat::{Flat, FlatDraft};
 use netlist::node::Operation;
 use std::alloc::Global;
 use std::test::Fail;
-
-fn range(signal: u32, low: u32, width: u32) -> Range {
-    Range { signal, low, width }
-}
 
 // The program of a draft that fits and has an order.
 fn program(alloc: Global, draft: FlatDraft) -> Result<Option<Compiled>, Fail> {
@@ -183,16 +179,16 @@ static NODES: [(u32, Operation, u128); 20] = [
 ];
 
 fn constants(alloc: Global) -> Result<FlatDraft, Fail> {
-    let mut draft = empty(alloc)?;
-    add_signal(alloc, &mut draft, 8, 0xa0)?;
-    add_signal(alloc, &mut draft, 8, 6)?;
-    add_signal(alloc, &mut draft, 100, 5)?;
+    let mut maker = DraftMaker::new(alloc)?;
+    maker.signal(8, Role::Inner, 0xa0)?;
+    maker.signal(8, Role::Inner, 6)?;
+    maker.signal(100, Role::Inner, 5)?;
     for (width, operation, _) in &NODES {
-        add_node(&mut draft, *width, *operation)?;
+        maker.node(*width, *operation)?;
     }
-    add_part(&mut draft, range(0, 0, 4), 3)?;
-    add_part(&mut draft, range(1, 4, 4), 1)?;
-    Ok(draft)
+    maker.drive(range(0, 0, 4), 3)?;
+    maker.drive(range(1, 4, 4), 1)?;
+    Ok(maker.draft)
 }
 
 #[test]
@@ -217,9 +213,9 @@ fn each_node_has_its_value(rt: HostRuntime) -> Result<(), Fail> {
 
 // A chain of parts of one bit, 100 to a signal: each has the one after it, and the last a constant.
 fn chain(alloc: Global, signals: u32) -> Result<FlatDraft, Fail> {
-    let mut draft = empty(alloc)?;
+    let mut maker = DraftMaker::new(alloc)?;
     for signal in 0..signals {
-        add_signal(alloc, &mut draft, 100, 0)?;
+        maker.inner(100)?;
         for low in 0..100u32 {
             let next = if low < 99 {
                 range(signal, low + 1, 1)
@@ -232,11 +228,11 @@ fn chain(alloc: Global, signals: u32) -> Result<FlatDraft, Fail> {
             } else {
                 Operation::Bits { range: next }
             };
-            let node = add_node(&mut draft, 1, operation)?;
-            add_part(&mut draft, range(signal, low, 1), node)?;
+            let node = maker.node(1, operation)?;
+            maker.drive(range(signal, low, 1), node)?;
         }
     }
-    Ok(draft)
+    Ok(maker.draft)
 }
 
 #[test]

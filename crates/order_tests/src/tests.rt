@@ -1,8 +1,9 @@
 //! Orders and loops of small designs, and of large ones.
 
-use crate::draft::{add_part, add_signal, empty};
+use crate::draft::add_part;
 use comb_order::answer::{Order, OrderFault};
 use comb_order::order;
+use draft_maker::DraftMaker;
 use netlist::design::Range;
 use netlist::flat::FlatDraft;
 use std::alloc::Global;
@@ -157,18 +158,18 @@ fn range(bits: Bits) -> Range {
 }
 
 fn draft(alloc: Global, design: &Design) -> Result<FlatDraft, Fail> {
-    let mut draft = empty(alloc)?;
+    let mut maker = DraftMaker::new(alloc)?;
     for width in design.widths {
-        add_signal(alloc, &mut draft, *width)?;
+        maker.inner(*width)?;
     }
     for (bits, reads) in design.parts {
         let mut ranges = Vec::new(alloc);
         for read in *reads {
             ranges.push(range(*read))?;
         }
-        add_part(&mut draft, range(*bits), &ranges)?;
+        add_part(&mut maker, range(*bits), &ranges)?;
     }
-    Ok(draft)
+    Ok(maker.draft)
 }
 
 // The parts of the order, or else of the loop; none where memory ran out.
@@ -207,21 +208,21 @@ fn small_designs_have_their_loops(rt: HostRuntime) -> Result<(), Fail> {
 // A chain of parts of one bit, 100 to a signal: each reads the one before it, and the first one, if the chain is
 // closed, the last.
 fn chain(alloc: Global, signals: u32, closed: bool) -> Result<FlatDraft, Fail> {
-    let mut draft = empty(alloc)?;
+    let mut maker = DraftMaker::new(alloc)?;
     let mut before = range((signals.saturating_sub(1), 99, 1));
     for signal in 0..signals {
-        add_signal(alloc, &mut draft, 100)?;
+        maker.inner(100)?;
         for low in 0..100 {
             let own = range((signal, low, 1));
             if closed || signal > 0 || low > 0 {
-                add_part(&mut draft, own, &[before])?;
+                add_part(&mut maker, own, &[before])?;
             } else {
-                add_part(&mut draft, own, &[])?;
+                add_part(&mut maker, own, &[])?;
             }
             before = own;
         }
     }
-    Ok(draft)
+    Ok(maker.draft)
 }
 
 #[test]
