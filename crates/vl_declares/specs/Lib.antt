@@ -1,0 +1,4 @@
+pub mod HeaderPorts
+pub mod Plain
+pub mod Values
+pub mod Variables
