@@ -3,3 +3,4 @@ mod DriverFaultExamples
 mod NameFaultExamples
 mod PartExamples
 mod RunExamples
+mod StandsExample

@@ -38,7 +38,7 @@ use Rattle.vl_process.specs.Texts.{top_name}
 use Rattle.vl_process.specs.Clocks.{clock_names}
 use Rattle.vl_process.specs.Shown.{is_instance, last_text, is_step_below}
 use Rattle.vl_process.specs.Processes.{Driver, Block, drivers, blocks}
-use Rattle.vl_process.specs.Settling.{Fits, AllFit, signal_width, Holds}
+use Rattle.vl_process.specs.Settling.{Fits, Settles, RowFits, AllFit, signal_width, Holds}
 use Rattle.vl_process.specs.Run.{Fired, initial, next, fires}
 use Rattle.vl_process.specs.Parts.{Part, driven_parts, register_parts, ReadsPart}
 
@@ -221,7 +221,8 @@ abbrev pub IsLocal : Flat → Design → ℕ → Block → Type 0
 IsLocal f d b x = (n k : ℕ) (y : Signal) → Contains (block_nodes f b) n → slice_get d.signals k ≡ Some y
     → IsTrue (reads_signal f n k) → instance_around d y.path ≡ instance_around d x.scope.level.path
 
--- ---- the whole
+-- ---- the whole; the next state is the design's where the values are those of a cycle, since a register part that isn't written takes
+-- its own bits of them
 
 pub record StandsFor (f : Flat) (d : Design) : Type 0 where
   pub scopes : f.scopes ≡ map (scope_by_number d) d.scopes
@@ -233,7 +234,8 @@ pub record StandsFor (f : Flat) (d : Design) : Type 0 where
   pub registers : OwnedBy (register_parts d) f.registers
   pub drives : (r : ℕ) (x : Driver) → slice_get (drivers d) r ≡ Some x → DriverStands f d r x
   pub reads : (i j : ℕ) → graph.ReadsPart f i j ↔ ReadsPart d i j
-  pub next_state : (s : State) (v : Values) → StateFits f s → Fits d v
+  pub next_state : (s : State) (row : List ℕ) (v : Values) → StateFits f s → RowFits d row
+      → Settles d (whole_state f s) row v
       → (whole_state f (flat_next f s v) ≡ next d (whole_state f s) v) × StateFits f (flat_next f s v)
   pub fired : (v : Values) → Fits d v → all_fired_by f (flat_fired f v) ≡ fires d v
   pub local : (b : ℕ) (x : Block) → slice_get (blocks d) b ≡ Some x → IsLocal f d b x
