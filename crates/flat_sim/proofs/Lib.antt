@@ -6,3 +6,4 @@ pub mod Ran
 pub mod Starts
 pub mod Advances
 pub mod Parts
+pub mod Narrow

@@ -2,3 +2,4 @@ pub mod Moment
 pub mod Stops
 pub mod Signals
 pub mod Inside
+pub mod Compared

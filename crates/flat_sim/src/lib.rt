@@ -10,6 +10,7 @@
 //! Not said: how long a cycle takes; that memory is enough.
 #![tactic(auto)]
 
+mod compared;
 mod events;
 mod kept;
 mod signals;

@@ -15,6 +15,7 @@ ghost use Rattle.held_state.specs.Kept as kept;
 ghost use Rattle.held_state.specs.States as states;
 ghost use Rattle.flat_sim.specs.Stops.{has_some};
 
+use crate::compared::note_next;
 use crate::events::all_fired;
 use crate::kept::{first_words, state_words, words_of};
 use crate::signals::{own_value, with_driven, with_registers};
@@ -26,7 +27,7 @@ use dt_core::fault::NoMemory;
 use held_state::commits::{Commit, initial_values, take_next};
 use held_state::given::{first_slots, later_slots, put_all, read_all};
 use held_state::nodes::Nodes;
-use held_state::noting::{note_registers, note_writes};
+use held_state::noting::note_writes;
 use held_state::undoing::undo_all;
 use held_state::writes::write_memories;
 use message_text::telling::Fired;
@@ -254,14 +255,20 @@ impl<'a> Sim<'a> {
         ensures stand { OnErr result (NotesStand journal.old journal.new) }
     {
         journal.reserve(self.flat.registers().len() + self.flat.writes().len())?;
-        let given = first_slots(self.compiled.given(), self.flat.registers().len());
         let nodes = Nodes {
             flat: self.flat,
             slots: self.compiled.nodes(),
             values: &self.slots,
         };
         note_writes(&nodes, &mut self.words, journal);
-        note_registers(&nodes, given, &self.slots, journal);
+        note_next(
+            self.flat,
+            &nodes,
+            &self.compiled,
+            &self.commit,
+            &self.slots,
+            journal,
+        );
         journal.close();
         take_next(self.flat, &self.compiled, &mut self.commit, &mut self.slots);
         self.settled = false;

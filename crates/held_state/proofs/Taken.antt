@@ -136,6 +136,13 @@ next_values x nodes (p ∷ ps) h =
     next_values x nodes ps h.1 in
     cc
 
+-- the numbers in the slots of the next nodes
+pub next_are : (f : Flat) (m : Machine) (x : Slots) → IsWellFormed f → Compiles f m
+    → numbers x (next_slots f.registers m.nodes) ≡ next_numbers f (numbers x m.nodes)
+next_are f m x w compiles =
+    next_values x m.nodes f.registers (recursion_from_All (λ (p : RegisterPart). p.next < length m.nodes) f.registers
+    (λ k d l. subst (λ n. (slice_index_or f.registers k d).next < n) (sym compiles.count) (next_there f w k d l)))
+
 next_in : (f : Flat) (m : Machine) (x : Slots) → IsWellFormed f → Compiles f m → IsReady m.plan x
     → AllIn (length x.narrow) (length x.wide) (next_slots f.registers m.nodes)
 next_in f m x w compiles ready k l =
@@ -185,10 +192,7 @@ took f m c x y w compiles ready is e =
     ∙ as_numbers x x to from (to_count ∙ sym from_count) (same_kinds f m w compiles) in
     let put : PutState r m (with_numbers x to (numbers x from)) (numbers x from) =
     put_state f m x (numbers x from) compiles ready (length-map from (λ s. slot_value x s) ∙ from_count) in
-    let values : numbers x from ≡ next_numbers f (numbers x m.nodes) =
-    next_values x m.nodes f.registers (recursion_from_All (λ (p : RegisterPart). p.next < length m.nodes) f.registers
-    (λ k d l. subst (λ n. (slice_index_or f.registers k d).next < n) (sym compiles.count) (next_there f w k d l))) in
     record {
       ready = subst (λ (u : Slots). IsReady m.plan u) (sym as_put) put.ready;
-      registers = ap (λ (u : Slots). register_numbers f m u) as_put ∙ put.registers ∙ values;
+      registers = ap (λ (u : Slots). register_numbers f m u) as_put ∙ put.registers ∙ next_are f m x w compiles;
     }

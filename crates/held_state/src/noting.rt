@@ -19,8 +19,8 @@ use state_changes::journal::Journal;
 use step_program::step::Slot;
 use step_program::words::{MemoryWords, SlotValues};
 
-// Notes an element's old value, where it takes another one.
-fn note(journal: &mut Journal<Change>, element: Element, old: u128, new: u128)
+/// Notes an element's old value, where it takes another one. It takes no memory.
+pub fn note(journal: &mut Journal<Change>, element: Element, old: u128, new: u128)
     requires { 0 < journal.old.room }
     ensures fresh { journal.new.fresh ≡ noting.with_note element old new journal.old.fresh }
     ensures room { journal.old.room ≤ journal.new.room + 1 }

@@ -1,4 +1,4 @@
-use Rattle.std.proofs.Common.{◌≡◌, true, take, length, sym, ap, ◌∙◌, subst, arith, rules}
+use Rattle.std.proofs.Common.{◌≡◌, true, sym, ap, ◌∙◌, subst, arith, rules}
 use Rattle.std.specs.Prelude.{map, if◌then◌else◌, Some, None, IsSome, IsSomeAnd}
 use Rattle.std.specs.Vec.{with_items}
 use Rattle.std.proofs.lemmas.List.{with_items_is}
@@ -83,18 +83,13 @@ returns-clause-noted c =
     let f = a.flat.now in
     let x = held a.slots in
     let out = c.note_writes.new.words in
-    let notes = c.note_registers.new.journal.fresh in
-    let given : c.first_slots-given.result.now ≡ take (length f.registers) a.compiled.front.slots =
-    c.first_slots-given.ensures ∙ ap (λ rs. take (length rs) c.given.result.now) c.registers-2.ensures.registers
-    ∙ ap (λ ss. take (length f.registers) ss) c.given.ensures in
+    let notes = c.note_next.new.journal.fresh in
     let words : AddsWords f c.reserve.new.self.fresh c.note_writes.new.journal.fresh a.words.items out =
     subst (λ ws. AddsWords f c.reserve.new.self.fresh c.note_writes.new.journal.fresh ws out) c.deref_mut.ensures.value
     c.note_writes.ensures.noted in
     let registers : AddsRegisters f c.note_writes.new.journal.fresh notes (register_numbers f a.compiled x)
     (next_numbers f (numbers x a.compiled.nodes)) =
-    subst (λ ss. AddsRegisters f c.note_writes.new.journal.fresh notes (numbers x ss) (next_numbers f (numbers x a.compiled.nodes))) given
-    (subst (λ ns. AddsRegisters f c.note_writes.new.journal.fresh notes (numbers x c.first_slots-given.result.now)
-    (next_numbers f (numbers x ns))) c.nodes.ensures c.note_registers.ensures.noted) in
+    c.note_next.ensures.noted in
     let items = with_items_is a.words out (omega (
       arith,
       kept_count f.memories out c.note_writes.ensures.kept,
