@@ -10,7 +10,10 @@ use Rattle.vl_value.specs.Order.{Found, lesser, least}
 use Rattle.vl_value.proofs.OrderLaws.{lesser_joined, least_joined}
 use Rattle.vl_tree.specs.Syntax as t
 use Rattle.vl_design.specs.Constants.{Known}
-use Rattle.vl_design.specs.Declarations.{Declared, header_ports}
+use Rattle.vl_design.specs.Declarations.{Declared, Local, header_ports, header_inputs}
+use Rattle.std.specs.Prelude.{Bool}
+use Rattle.vl_design.specs.Spans.{Span}
+use Rattle.vl_declares.specs.Locals.{input_here}
 use Rattle.vl_declares.specs.HeaderPorts.{port_here, words_behind}
 
 -- what was added, and what is left
@@ -43,3 +46,13 @@ pub ports_on : (k : Known) (w : Option t.Directed) (p : t.Port) (ps : List t.Por
 ports_on k w (t.declared_port e x) ps = refl
 ports_on k None (t.named_port x) ps = refl
 ports_on k (Some e) (t.named_port x) ps = refl
+
+-- one input of a function's header, and those behind it
+pub inputs_on : (k : Known) (s : Bool) (sp : Span) (p : t.FunctionPort) (ps : List t.FunctionPort)
+    → header_inputs k s sp (p ∷ ps) ≡ input_here k s sp p ∷ header_inputs k (input_here k s sp p).signed (input_here k s sp p).span ps
+inputs_on k s sp (t.declared_input p g r x) ps = refl
+inputs_on k s sp (t.named_input x) ps = refl
+
+-- locals that were added, and what is left
+pub locals_on : (old new some rest all : List Local) → new ≡ old ++ some → old ++ (some ++ rest) ≡ all → new ++ rest ≡ all
+locals_on old new some rest all e h = ap (λ l. l ++ rest) e ∙ append_assoc old some rest ∙ h

@@ -1,4 +1,6 @@
+pub mod Functions
 pub mod HeaderPorts
+pub mod Locals
 pub mod Plain
 pub mod Values
 pub mod Variables

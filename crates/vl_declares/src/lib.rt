@@ -8,8 +8,10 @@
 #![tactic(auto)]
 
 pub mod declared;
+pub mod function;
 pub mod header;
 pub mod header_ports;
+pub mod inputs;
 pub mod names;
 pub mod ranged;
 pub mod values;
