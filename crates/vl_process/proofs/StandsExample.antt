@@ -20,8 +20,9 @@ use Rattle.vl_tree.specs.Syntax as t
 use Rattle.vl_tree.specs.Syntax.{Source}
 use Rattle.vl_design.specs.Design.{Design}
 use Rattle.vl_process.specs.Parts.{Part, driven_parts, register_parts}
+use Rattle.vl_process.specs.Processes.{blocks}
 use Rattle.vl_process.specs.Run.{initial, next, fires}
-use Rattle.vl_process.specs.StandsFor.{scope_by_number, signals_by_number, inputs_by_number, range_of, whole_state, all_fired_by}
+use Rattle.vl_process.specs.StandsFor.{scope_by_number, signals_by_number, inputs_by_number, range_of, whole_state, all_fired_by, block_scope}
 use Rattle.vl_process.proofs.Build.{p, x, dr, dv, sn, md, design_in, values, each_driven, fired}
 
 -- module m(input clk, input en, input d, output reg q, output w);
@@ -101,6 +102,9 @@ registers = refl
 
 owners : map (λ q. q.block) flat.registers ≡ map (λ (q : Part). q.owner) (register_parts kept)
 owners = refl
+
+blocks_stand : map (λ q. Some q.scope) flat.blocks ≡ map (block_scope kept) (blocks kept)
+blocks_stand = refl
 
 start : whole_state flat (flat_start flat) ≡ initial kept
 start = refl

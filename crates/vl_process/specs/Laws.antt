@@ -13,7 +13,7 @@ use Rattle.vl_tree.specs.Syntax.{Source}
 use Rattle.vl_value.specs.Paths.{Text}
 use Rattle.vl_design.specs.Limits.{Limits}
 use Rattle.vl_design.specs.Design.{Design, elaborated}
-use Rattle.vl_process.specs.Settling.{Settles, RowFits}
+use Rattle.vl_process.specs.Settling.{Fits, Settles, RowFits}
 use Rattle.vl_process.specs.Run.{IsRun, RowsFit, row_at, fires}
 use Rattle.vl_process.specs.Shown.{scope_of, shown}
 use Rattle.vl_process.specs.StandsFor.{StandsFor, StateFits, whole_state, all_fired_by}
@@ -22,6 +22,10 @@ use Rattle.vl_process.specs.StandsFor.{StandsFor, StateFits, whole_state, all_fi
 abbrev pub SettlesLaw : Type 0
 SettlesLaw = (f : Flat) (d : Design) (s : State) (row : List ℕ) (v : Values) → IsWellFormed f → StandsFor f d
     → StateFits f s → RowFits d row → FlatSettles f s row v ↔ Settles d (whole_state f s) row v
+
+-- a law: the same assertions fire, in the same order
+abbrev pub FiresLaw : Type 0
+FiresLaw = (f : Flat) (d : Design) (v : Values) → StandsFor f d → Fits d v → all_fired_by f (flat_fired f v) ≡ fires d v
 
 -- states and values are those of a run of a numbered design over rows
 pub record IsFlatRun (f : Flat) (rows : List (List ℕ)) (states : ℕ → State) (values : ℕ → Values) : Type 0 where

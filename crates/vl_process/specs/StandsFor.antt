@@ -1,14 +1,14 @@
 -- When a numbered design stands for a design: its numbers are the places in the design's lists, and what holds, settles, comes next and
 -- fires is the same. This project's own. Values of signals and memories are alike in both; a numbered state has the register
 -- parts and the written memories alone.
-use Rattle.std.specs.Prelude.{◌≡◌, ◌↔◌, ◌<◌, ◌^◌, ℕ, suc, ◌==◌, ◌++◌, Bool, false, ◌&&◌, if◌then◌else◌, List, [], ◌∷◌, map, length, slice_get, slice_index, slice_index_or, pos, Option, Some, None, IsTrue, Contains, take}
+use Rattle.std.specs.Prelude.{◌≡◌, ◌↔◌, ◌<◌, ◌^◌, ℕ, suc, ◌==◌, ◌++◌, Bool, false, ◌&&◌, if◌then◌else◌, List, [], ◌∷◌, map, length, slice_get, slice_index, slice_index_or, pos, Option, Some, None, IsTrue, Contains, take, sum_by}
 use Rattle.std.specs.List.{All}
 use Rattle.bit_ops.specs.Operators.{select}
 use Rattle.netlist.specs.Design.{Flat}
 use Rattle.netlist.specs.Plain.{PlainMemory, PlainBlock}
 use Rattle.netlist.specs.Values.{Values, node_values}
 use Rattle.netlist.specs.Run as run
-use Rattle.netlist.specs.Run.{State, flat_start, flat_next, flat_fired, put_registers, all_words}
+use Rattle.netlist.specs.Run.{State, flat_start, flat_next, put_registers, all_words}
 use Rattle.netlist.specs.Graph as graph
 use Rattle.netlist.specs.declared.design.Scope as flat_scope
 use Rattle.netlist.specs.declared.design.ScopeKind.{ScopeKind}
@@ -37,10 +37,10 @@ use Rattle.vl_design.specs.Design.{Design, Signal, Memory}
 use Rattle.vl_process.specs.Texts.{top_name}
 use Rattle.vl_process.specs.Clocks.{clock_names}
 use Rattle.vl_process.specs.Shown.{is_instance, last_text, is_step_below}
-use Rattle.vl_process.specs.Processes.{Driver, Block, drivers, blocks}
+use Rattle.vl_process.specs.Processes.{Driver, Block, drivers, blocks, block_aims}
 use Rattle.vl_process.specs.Settling.{Fits, Settles, RowFits, AllFit, signal_width, Holds}
-use Rattle.vl_process.specs.Run.{Fired, initial, next, fires}
-use Rattle.vl_process.specs.Parts.{Part, driven_parts, register_parts, ReadsPart}
+use Rattle.vl_process.specs.Run.{Fired, initial, next, block_fires}
+use Rattle.vl_process.specs.Parts.{Part, owner_from, driven_parts, register_parts, ReadsPart}
 
 -- ---- scopes, signals and memories by number
 
@@ -105,16 +105,21 @@ some_of (Some n ∷ more) = n ∷ some_of more
 abbrev pub inputs_by_number : Design → List ℕ
 inputs_by_number d = some_of (map (λ (x : Signal). signal_from 0 d.signals x.path) d.inputs)
 
--- a memory has the design's width and bounds
-pub record IsMemory (y : Memory) (m : PlainMemory) : Type 0 where
+-- the block that writes a memory, which counts as one bit; what no block writes is constant
+abbrev pub writer_of : Design → Path → Option ℕ
+writer_of d p = owner_from 0 (map block_aims (blocks d)) p 0
+
+-- a memory has the design's width and bounds, and is written by the design's block
+pub record IsMemory (d : Design) (y : Memory) (m : PlainMemory) : Type 0 where
   pub width : m.width ≡ width_of y.shape
   pub first : m.first ≡ y.first
   pub last : m.last ≡ y.last
+  pub writer : m.writer ≡ writer_of d y.path
 
-abbrev pub AreMemories : List Memory → List PlainMemory → Type 0
-AreMemories [] [] = Unit {0}
-AreMemories (y ∷ ys) (m ∷ ms) = IsMemory y m × AreMemories ys ms
-AreMemories _ _ = ⊥
+abbrev pub AreMemories : Design → List Memory → List PlainMemory → Type 0
+AreMemories d [] [] = Unit {0}
+AreMemories d (y ∷ ys) (m ∷ ms) = IsMemory d y m × AreMemories d ys ms
+AreMemories d _ _ = ⊥
 
 -- ---- parts
 
@@ -182,6 +187,22 @@ abbrev pub all_fired_by : Flat → List run.Fired → List Fired
 all_fired_by f [] = []
 all_fired_by f (x ∷ xs) = fired_by f (slice_get (flat_stops f) x.stop) x.message ++ all_fired_by f xs
 
+-- the scope of a block by number
+abbrev pub block_scope : Design → Block → Option ℕ
+block_scope d x = scope_from 0 (λ p. same_path p x.scope.level.path) d.scopes
+
+abbrev pub events_at : List PlainBlock → ℕ → List Event
+events_at bs b = elim (slice_get bs b) [ Some x ↦ x.events | None ↦ [] ]
+
+-- the number of the first stop of a block: that of all stops of the blocks before it
+abbrev pub first_stop : List PlainBlock → ℕ → ℕ
+first_stop bs b = sum_by (λ (x : PlainBlock). run.stop_count x.events) (take b bs)
+
+-- what fires of a block at these values is what fires of the design's, whether they settle or not
+abbrev pub BlockStands : Flat → Design → ℕ → Block → Type 0
+BlockStands f d b x = (v : Values) → Fits d v → all_fired_by f
+    (run.block_fired f.nodes (node_values f v) (first_stop f.blocks b) [] (events_at f.blocks b)) ≡ block_fires d v x
+
 -- ---- what a block reads stays in its instance; a generate scope belongs to the instance around it
 
 -- the innermost instance around a path: the last one, in preorder, whose path it begins with
@@ -207,9 +228,6 @@ shown_node (e.Stopped p z) = []
 abbrev pub event_nodes : Event → List ℕ
 event_nodes x = x.condition ∷ shown_node x.effect
 
-abbrev pub events_at : List PlainBlock → ℕ → List Event
-events_at bs b = elim (slice_get bs b) [ Some x ↦ x.events | None ↦ [] ]
-
 abbrev pub block_nodes : Flat → ℕ → List ℕ
 block_nodes f b = each_of (next_node b) f.registers ++ each_of event_nodes (events_at f.blocks b)
 
@@ -228,7 +246,7 @@ pub record StandsFor (f : Flat) (d : Design) : Type 0 where
   pub scopes : f.scopes ≡ map (scope_by_number d) d.scopes
   pub signals : f.signals ≡ signals_by_number d d.signals (initial d).signals
   pub inputs : f.inputs ≡ inputs_by_number d
-  pub memories : AreMemories d.memories f.memories
+  pub memories : AreMemories d d.memories f.memories
   pub start : whole_state f (flat_start f) ≡ initial d
   pub driven : map (λ p. p.range) f.driven ≡ map range_of (driven_parts d)
   pub registers : OwnedBy (register_parts d) f.registers
@@ -237,5 +255,6 @@ pub record StandsFor (f : Flat) (d : Design) : Type 0 where
   pub next_state : (s : State) (row : List ℕ) (v : Values) → StateFits f s → RowFits d row
       → Settles d (whole_state f s) row v
       → (whole_state f (flat_next f s v) ≡ next d (whole_state f s) v) × StateFits f (flat_next f s v)
-  pub fired : (v : Values) → Fits d v → all_fired_by f (flat_fired f v) ≡ fires d v
+  pub blocks_stand : map (λ x. Some x.scope) f.blocks ≡ map (block_scope d) (blocks d)
+  pub fired : (b : ℕ) (x : Block) → slice_get (blocks d) b ≡ Some x → BlockStands f d b x
   pub local : (b : ℕ) (x : Block) → slice_get (blocks d) b ≡ Some x → IsLocal f d b x
