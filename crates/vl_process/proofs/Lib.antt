@@ -3,4 +3,5 @@ mod DriverFaultExamples
 mod NameFaultExamples
 mod PartExamples
 mod RunExamples
+mod Runs
 mod StandsExample
