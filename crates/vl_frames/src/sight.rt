@@ -25,7 +25,7 @@ impl Names for Frames {
         }
     }
 
-    // There is no function, and so none is asked for.
+    // No name stands for a function, so nobody asks for an input. Each has one bit.
     fn input(&self, _function: u32, _k: u32) -> Shape {
         Shape {
             left: 0,
