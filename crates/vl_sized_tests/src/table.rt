@@ -185,126 +185,93 @@ static ROWS_0: [Row; 20] = [
 
 static ROWS_1: [Row; 20] = [
     Row {
-        context: 65,
-        text: b"{(s4 >> 64'h1 << s10) * s16}\n",
+        context: 8,
+        text: b"{(s4 >>> (s1 - 1) >> (s1 - s5)) << (Q)}\n",
         value: 0x0,
     },
     Row {
-        context: 4,
-        text: b"g(((R != R) < $signed(R)) >= 2)\n",
-        value: 0x5,
+        context: 65,
+        text: b"s5\n",
+        value: 0x6,
+    },
+    Row {
+        context: 8,
+        text: b"s13\n",
+        value: 0xff,
+    },
+    Row {
+        context: 16,
+        text: b"s11[29:8]\n",
+        value: 0x0,
     },
     Row {
         context: 33,
-        text: b"(s11 + 31) ? R : (s7[31 +: 13] > s9)\n",
+        text: b"2'sb1 - s6 - 100'sb0\n",
+        value: 0x2,
+    },
+    Row {
+        context: 32,
+        text: b"&(5'd0 ^ (~^P))\n",
+        value: 0x0,
+    },
+    Row {
+        context: 65,
+        text: b"s11 == R\n",
+        value: 0x0,
+    },
+    Row {
+        context: 1,
+        text: b"64'sd18446744073709551615\n",
+        value: 0x1,
+    },
+    Row {
+        context: 64,
+        text: b"P ? ((100'b1 % R) <<< f(s18, 33'sd4294967296)) : s3\n",
+        value: 0x0,
+    },
+    Row {
+        context: 8,
+        text: b"{8{s2, ~^s5}}\n",
+        value: 0x21,
+    },
+    Row {
+        context: 65,
+        text: b"$unsigned(32'sb1001110011100001110010110101000 % 8'h80)\n",
+        value: 0x28,
+    },
+    Row {
+        context: 65,
+        text: b"s8[5]\n",
+        value: 0x0,
+    },
+    Row {
+        context: 8,
+        text: b"{2{s17[s1 -: 19], 31'h1, R}}\n",
         value: 0xc8,
     },
     Row {
-        context: 8,
-        text: b"s7 > 4'sb0\n",
-        value: 0x1,
-    },
-    Row {
-        context: 16,
-        text: b"s8\n",
-        value: 0x24d4,
-    },
-    Row {
         context: 1,
-        text: b"s19[26 -: 3] != 4'sb0\n",
+        text: b"|$signed(s10)\n",
         value: 0x1,
-    },
-    Row {
-        context: 8,
-        text: b"64'sd9223372036854775808\n",
-        value: 0x0,
-    },
-    Row {
-        context: 1,
-        text: b"$signed(5'd0 ^ (~^P))\n",
-        value: 0x1,
-    },
-    Row {
-        context: 4,
-        text: b"s1[3:3]\n",
-        value: 0x0,
-    },
-    Row {
-        context: 25,
-        text: b"s9[s0 +: 25]\n",
-        value: 0x0,
-    },
-    Row {
-        context: 128,
-        text: b"s6\n",
-        value: 0xffffffffffffffffffffffffffffffff,
-    },
-    Row {
-        context: 32,
-        text: b"(s14 + s15) * (s1 != P) * (s8 + s4)\n",
-        value: 0xe35a0eee,
-    },
-    Row {
-        context: 32,
-        text: b"-R\n",
-        value: 0xffffff38,
     },
     Row {
         context: 65,
-        text: b"!((100'ha2e3792a64bb19fdf0ebe0a << (3)) ? (2'sb0 % s16) : 1386397516)\n",
-        value: 0x1,
-    },
-    Row {
-        context: 32,
-        text: b"{{8{s2, ~^s5}}, (64'd16605480383838936226 >>> (s2 | s5)) ? g(s2) : (Q & 8'sb0)}\n",
-        value: 0x5,
-    },
-    Row {
-        context: 128,
-        text: b"32 ^ s3[6]\n",
-        value: 0x20,
-    },
-    Row {
-        context: 64,
-        text: b"s7\n",
-        value: 0x1,
+        text: b"-s15\n",
+        value: 0x84cedf20d0b2b37a,
     },
     Row {
         context: 4,
-        text: b"s16 ? s11 : s4[34]\n",
-        value: 0x1,
+        text: b"s15\n",
+        value: 0x6,
     },
     Row {
-        context: 64,
-        text: b"{s8, s14}\n",
-        value: 0xffffffffffffffff,
-    },
-    Row {
-        context: 128,
-        text: b"s6[3 +: 6] ? 7 : s18\n",
-        value: 0x7,
-    },
-];
-
-static ROWS_2: [Row; 20] = [
-    Row {
-        context: 16,
-        text: b"m1[6]\n",
-        value: 0xffff,
-    },
-    Row {
-        context: 65,
-        text: b"s18[8'sd5]\n",
-        value: 0x1,
+        context: 8,
+        text: b"s2\n",
+        value: 0x0,
     },
     Row {
         context: 4,
-        text: b"g(R ? $unsigned(s19) : s7[34 -: 11])\n",
-        value: 0x5,
-    },
-    Row {
-        context: 4,
-        text: b"(Q % s3) >>> (4'sh0 >>> s6)\n",
+        text: b"31'h0 - (~|8'sd233)\n",
         value: 0x0,
     },
     Row {
@@ -317,6 +284,9 @@ static ROWS_2: [Row; 20] = [
         text: b"~s19\n",
         value: 0x100000000,
     },
+];
+
+static ROWS_2: [Row; 20] = [
     Row {
         context: 33,
         text: b"s5\n",
@@ -387,9 +357,6 @@ static ROWS_2: [Row; 20] = [
         text: b"({2{1, m1[s2][35 -: 10]}} || (s9 ? Q : 2'd2)) >>> (s6)\n",
         value: 0x0,
     },
-];
-
-static ROWS_3: [Row; 20] = [
     Row {
         context: 32,
         text: b"~^32'sh1\n",
@@ -416,64 +383,37 @@ static ROWS_3: [Row; 20] = [
         value: 0x1,
     },
     Row {
-        context: 16,
-        text: b"{4{~1}} + $unsigned({m1[11][20:14]})\n",
-        value: 0x41,
-    },
-    Row {
-        context: 33,
-        text: b"s8 || (~|s19[4'sd9 +: 3])\n",
-        value: 0x1,
-    },
-    Row {
-        context: 16,
-        text: b"-s7\n",
-        value: 0xffff,
-    },
-    Row {
-        context: 32,
-        text: b"(&3) + s15\n",
-        value: 0x2f4d4c86,
-    },
-    Row {
-        context: 2,
-        text: b"2'sb1\n",
-        value: 0x1,
-    },
-    Row {
         context: 1,
-        text: b"{~|$clog2(128'sd170141183460469231731687303715884105728 << (s1 - s5))}\n",
-        value: 0x1,
+        text: b"&(s1[34 -: 1] <<< (s6))\n",
+        value: 0x0,
+    },
+];
+
+static ROWS_3: [Row; 20] = [
+    Row {
+        context: 4,
+        text: b"{{s9[31:4]} + m0[s1 + s0]}\n",
+        value: 0x0,
     },
     Row {
-        context: 8,
-        text: b"(s16 & (~s10)) != {2{31, m0[4][28] > P, 16'h0 % s1[9]}}\n",
-        value: 0x1,
+        context: 16,
+        text: b"f(s7, s0)\n",
+        value: 0x2,
     },
     Row {
         context: 4,
-        text: b"$signed(32'd2147483648)\n",
+        text: b"$clog2((P ? s8 : s14) >>> (s3))\n",
+        value: 0xd,
+    },
+    Row {
+        context: 128,
+        text: b"^s2\n",
         value: 0x0,
-    },
-    Row {
-        context: 16,
-        text: b"3\n",
-        value: 0x3,
-    },
-    Row {
-        context: 32,
-        text: b"~|s8[4:0]\n",
-        value: 0x0,
-    },
-    Row {
-        context: 33,
-        text: b"{s12, s19 ^ s15, &64'b11001101101001001100000100001111100100101110110110110101001011}\n",
-        value: 0x1a16566f2,
     },
     Row {
         context: 65,
-        text: b"100'b1\n",
-        value: 0x1,
+        text: b"2'sh0\n",
+        value: 0x0,
     },
     Row {
         context: 65,
@@ -490,9 +430,6 @@ static ROWS_3: [Row; 20] = [
         text: b"$clog2($unsigned(s5))\n",
         value: 0x1,
     },
-];
-
-static ROWS_4: [Row; 20] = [
     Row {
         context: 65,
         text: b"s12[2 +: 8]\n",
@@ -553,6 +490,9 @@ static ROWS_4: [Row; 20] = [
         text: b"$unsigned(-128'd170141183460469231731687303715884105728)\n",
         value: 0x0,
     },
+];
+
+static ROWS_4: [Row; 20] = [
     Row {
         context: 1,
         text: b"s2[s3]\n",
@@ -564,33 +504,93 @@ static ROWS_4: [Row; 20] = [
         value: 0x0,
     },
     Row {
-        context: 128,
-        text: b"~&1\n",
-        value: 0x1,
-    },
-    Row {
-        context: 128,
-        text: b"s0\n",
+        context: 4,
+        text: b"~^s9\n",
         value: 0x1,
     },
     Row {
         context: 65,
-        text: b"~|s15\n",
-        value: 0x0,
+        text: b"~$signed(s11 ? 0 : s2)\n",
+        value: 0x1ffffffffffffffff,
     },
     Row {
-        context: 32,
-        text: b"{65'h1, 4'sh0}\n",
-        value: 0x10,
+        context: 8,
+        text: b"s17 > s18[s2 +: 2]\n",
+        value: 0x1,
     },
     Row {
         context: 4,
-        text: b"{255 >> s7 >> s7, {1{s13}}}\n",
+        text: b"s8[s1 +: 15] <<< (-s8[11:8])\n",
+        value: 0x0,
+    },
+    Row {
+        context: 1,
+        text: b"s7[12:4]\n",
+        value: 0x0,
+    },
+    Row {
+        context: 8,
+        text: b"16'sd33767 - 8'd255\n",
+        value: 0xe8,
+    },
+    Row {
+        context: 16,
+        text: b"s14[17]\n",
+        value: 0x1,
+    },
+    Row {
+        context: 4,
+        text: b"m0[s3][3:0] ^ (~s2)\n",
         value: 0xf,
     },
     Row {
+        context: 4,
+        text: b"4'sd8\n",
+        value: 0x8,
+    },
+    Row {
+        context: 65,
+        text: b"{1{31'sh197d7b2f, 33'sh0}} ? $unsigned(s17[s2]) : (s3 == s15[s6 +: 21])\n",
+        value: 0x0,
+    },
+    Row {
+        context: 8,
+        text: b"~(8'd1 || s2)\n",
+        value: 0xfe,
+    },
+    Row {
+        context: 8,
+        text: b"~^s3\n",
+        value: 0x0,
+    },
+    Row {
+        context: 4,
+        text: b"s18 ~^ 2 ^ 2'sd0\n",
+        value: 0x2,
+    },
+    Row {
         context: 33,
-        text: b"{m0[1]} + s11\n",
-        value: 0x81,
+        text: b"(s7 & s17 & 5'sh10) ? s9[13 +: 22] : {s3, s8}\n",
+        value: 0x124d4,
+    },
+    Row {
+        context: 16,
+        text: b"(m0[14][s3] >>> (s2)) - s19[22]\n",
+        value: 0xffff,
+    },
+    Row {
+        context: 33,
+        text: b"f(s14 ? s7[5:4] : (s7[8'sd5 -: 14] ? P : R), 33'h1a1a7ed24)\n",
+        value: 0x1fffffd24,
+    },
+    Row {
+        context: 8,
+        text: b"s7 ? 2'sb10 : s7\n",
+        value: 0x2,
+    },
+    Row {
+        context: 65,
+        text: b"s3 >>> (s2 ^ 1)\n",
+        value: 0x0,
     },
 ];
