@@ -10,4 +10,4 @@ one_bit = record { left = 0; right = 0; signed = false }
 -- each function, had it a name, would have an input of one bit: so `input` can be called, though no name asks for it
 abbrev pub no_objects : Numbering
 no_objects =
-  record { signals = λ n. []; memories = λ n. []; locals = λ n. []; functions = λ n. []; inputs = λ n. one_bit ∷ [] }
+    record { signals = λ n. []; memories = λ n. []; locals = λ n. []; functions = λ n. []; inputs = λ n. one_bit ∷ [] }
