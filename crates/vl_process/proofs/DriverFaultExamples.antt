@@ -675,3 +675,49 @@ clock_in_a_list_without_an_edge_text =
 
 clock_in_a_list_without_an_edge : fault_in clock_in_a_list_without_an_edge_text ≡ None
 clock_in_a_list_without_an_edge = refl
+
+-- module m(input clk);
+--   wire q;
+--   f x(.c(clk), .q(q));
+-- endmodule
+-- module f(input [1:0] c, output reg q);
+--   always @(posedge c) q <= 0;
+-- endmodule
+abbrev wide_clock_port_behind_its_connection_text : Source
+wide_clock_port_behind_its_connection_text =
+    ((md (p 0 1) (x (codes "m") 1 1) ([]) (Some ((t.declared_port (dr (p 3 1) t.input None false None) (x (codes
+    "clk") 4 1)) ∷ [])) (t.more_item (t.nets (p 7 2) false None ((nt (x (codes "q") 8 2) None) ∷ [])) (t.more_item
+    (t.instances (x (codes "f") 10 3) None ((ins (x (codes "x") 11 3) (Some (t.by_name ((nb (p 13 3) (x (codes "c")
+    14 3) (Some (t.read (x (codes "clk") 16 3) t.no_select))) ∷ (nb (p 19 3) (x (codes "q") 20 3) (Some (t.read (x
+    (codes "q") 22 3) t.no_select))) ∷ [])))) ∷ [])) t.no_item))) ∷ (md (p 27 5) (x (codes "f") 28 5) ([]) (Some
+    ((t.declared_port (dr (p 30 5) t.input None false (Some (rg (p 31 5) (t.number (p 32 5) (lit 32 false true 1 0))
+    (t.number (p 34 5) (lit 32 false true 0 0))))) (x (codes "c") 36 5)) ∷ (t.declared_port (dr (p 38 5) t.output
+    (Some t.reg) false None) (x (codes "q") 40 5)) ∷ [])) (t.more_item (t.always (p 43 6) (t.sensed ((sn
+    (t.positive_edge (p 46 6)) (t.read (x (codes "c") 47 6) t.no_select)) ∷ [])) (t.assign (t.name (x (codes "q") 49
+    6) t.no_select) t.nonblocking (p 50 6) (t.number (p 51 6) (lit 32 false true 0 0)))) t.no_item)) ∷ [])
+
+wide_clock_port_behind_its_connection : fault_in wide_clock_port_behind_its_connection_text ≡ Some (8, (Some 14, k.BadClock))
+wide_clock_port_behind_its_connection = refl
+
+-- module f(input [1:0] c, output reg q);
+--   always @(posedge c) q <= 0;
+-- endmodule
+-- module m(input clk);
+--   wire q;
+--   f x(.c(clk), .q(q));
+-- endmodule
+abbrev wide_clock_port_before_its_connection_text : Source
+wide_clock_port_before_its_connection_text =
+    ((md (p 0 1) (x (codes "f") 1 1) ([]) (Some ((t.declared_port (dr (p 3 1) t.input None false (Some (rg (p 4 1)
+    (t.number (p 5 1) (lit 32 false true 1 0)) (t.number (p 7 1) (lit 32 false true 0 0))))) (x (codes "c") 9 1)) ∷
+    (t.declared_port (dr (p 11 1) t.output (Some t.reg) false None) (x (codes "q") 13 1)) ∷ [])) (t.more_item
+    (t.always (p 16 2) (t.sensed ((sn (t.positive_edge (p 19 2)) (t.read (x (codes "c") 20 2) t.no_select)) ∷ []))
+    (t.assign (t.name (x (codes "q") 22 2) t.no_select) t.nonblocking (p 23 2) (t.number (p 24 2) (lit 32 false true
+    0 0)))) t.no_item)) ∷ (md (p 27 4) (x (codes "m") 28 4) ([]) (Some ((t.declared_port (dr (p 30 4) t.input None
+    false None) (x (codes "clk") 31 4)) ∷ [])) (t.more_item (t.nets (p 34 5) false None ((nt (x (codes "q") 35 5)
+    None) ∷ [])) (t.more_item (t.instances (x (codes "f") 37 6) None ((ins (x (codes "x") 38 6) (Some (t.by_name ((nb
+    (p 40 6) (x (codes "c") 41 6) (Some (t.read (x (codes "clk") 43 6) t.no_select))) ∷ (nb (p 46 6) (x (codes "q")
+    47 6) (Some (t.read (x (codes "q") 49 6) t.no_select))) ∷ [])))) ∷ [])) t.no_item))) ∷ [])
+
+wide_clock_port_before_its_connection : fault_in wide_clock_port_before_its_connection_text ≡ Some (8, (Some 19, k.BadClock))
+wide_clock_port_before_its_connection = refl

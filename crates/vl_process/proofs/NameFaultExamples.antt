@@ -1,5 +1,6 @@
 -- Worked examples of phases 6 and 7: each kind of fault, where it stands, and what is none; and what isn't built.
 use Rattle.std.specs.Prelude.{◌≡◌, refl, true, false, [], ◌∷◌, Some, None, codes}
+use Rattle.bit_ops.specs.declared.operator.Binary.TheVariants as b
 use Rattle.vl_tree.specs.declared.fault.FaultKind.TheVariants as k
 use Rattle.vl_tree.specs.Syntax as t
 use Rattle.vl_tree.specs.Syntax.{Source}
@@ -224,6 +225,66 @@ input_in_a_block_text =
 input_in_a_block : fault_in input_in_a_block_text ≡ Some (6, (Some 16, k.BadTarget))
 input_in_a_block = refl
 
+-- module m(input clk);
+--   wire [3:0] w;
+--   always @(posedge clk) w[1][0] <= 1;
+-- endmodule
+abbrev two_selects_of_a_net_in_a_block_text : Source
+two_selects_of_a_net_in_a_block_text =
+    ((md (p 0 1) (x (codes "m") 1 1) ([]) (Some ((t.declared_port (dr (p 3 1) t.input None false None) (x (codes
+    "clk") 4 1)) ∷ [])) (t.more_item (t.nets (p 7 2) false (Some (rg (p 8 2) (t.number (p 9 2) (lit 32 false true 3
+    0)) (t.number (p 11 2) (lit 32 false true 0 0)))) ((nt (x (codes "w") 13 2) None) ∷ [])) (t.more_item (t.always
+    (p 15 3) (t.sensed ((sn (t.positive_edge (p 18 3)) (t.read (x (codes "clk") 19 3) t.no_select)) ∷ [])) (t.assign
+    (t.name (x (codes "w") 21 3) (t.more_select (p 22 3) (t.index (t.number (p 23 3) (lit 32 false true 1 0)))
+    (t.more_select (p 25 3) (t.index (t.number (p 26 3) (lit 32 false true 0 0))) t.no_select))) t.nonblocking (p 28
+    3) (t.number (p 29 3) (lit 32 false true 1 0)))) t.no_item))) ∷ [])
+
+two_selects_of_a_net_in_a_block : fault_in two_selects_of_a_net_in_a_block_text ≡ Some (6, (Some 21, k.BadSelect))
+two_selects_of_a_net_in_a_block = refl
+
+-- module m;
+--   parameter P = 3;
+--   assign P[0] = 1;
+-- endmodule
+abbrev select_of_a_parameter_as_target_text : Source
+select_of_a_parameter_as_target_text =
+    ((md (p 0 1) (x (codes "m") 1 1) ([]) None (t.more_item (t.parameter (p 3 2) false false None ((vl (x (codes "P")
+    4 2) (t.number (p 6 2) (lit 32 false true 3 0))) ∷ [])) (t.more_item (t.continuous (p 8 3) ((dv (t.name (x (codes
+    "P") 9 3) (t.more_select (p 10 3) (t.index (t.number (p 11 3) (lit 32 false true 0 0))) t.no_select)) (p 13 3)
+    (t.number (p 14 3) (lit 32 false true 1 0))) ∷ [])) t.no_item))) ∷ [])
+
+select_of_a_parameter_as_target : fault_in select_of_a_parameter_as_target_text ≡ Some (6, (Some 9, k.BadSelect))
+select_of_a_parameter_as_target = refl
+
+-- module m;
+--   reg [3:0] r;
+--   assign r[0 +: 0] = 1;
+-- endmodule
+abbrev no_bits_of_a_variable_in_an_assignment_text : Source
+no_bits_of_a_variable_in_an_assignment_text =
+    ((md (p 0 1) (x (codes "m") 1 1) ([]) None (t.more_item (t.registers (p 3 2) false (Some (rg (p 4 2) (t.number (p
+    5 2) (lit 32 false true 3 0)) (t.number (p 7 2) (lit 32 false true 0 0)))) ((t.variable (x (codes "r") 9 2)) ∷
+    [])) (t.more_item (t.continuous (p 11 3) ((dv (t.name (x (codes "r") 12 3) (t.more_select (p 13 3) (t.upward
+    (t.number (p 14 3) (lit 32 false true 0 0)) (t.number (p 16 3) (lit 32 false true 0 0))) t.no_select)) (p 18 3)
+    (t.number (p 19 3) (lit 32 false true 1 0))) ∷ [])) t.no_item))) ∷ [])
+
+no_bits_of_a_variable_in_an_assignment : fault_in no_bits_of_a_variable_in_an_assignment_text ≡ Some (6, (Some 12, k.ZeroReplication))
+no_bits_of_a_variable_in_an_assignment = refl
+
+-- module m;
+--   reg r [0:1];
+--   assign r = 1;
+-- endmodule
+abbrev memory_without_an_index_in_an_assignment_text : Source
+memory_without_an_index_in_an_assignment_text =
+    ((md (p 0 1) (x (codes "m") 1 1) ([]) None (t.more_item (t.registers (p 3 2) false None ((t.memory (x (codes "r")
+    4 2) (rg (p 5 2) (t.number (p 6 2) (lit 32 false true 0 0)) (t.number (p 8 2) (lit 32 false true 1 0)))) ∷ []))
+    (t.more_item (t.continuous (p 11 3) ((dv (t.name (x (codes "r") 12 3) t.no_select) (p 13 3) (t.number (p 14 3)
+    (lit 32 false true 1 0))) ∷ [])) t.no_item))) ∷ [])
+
+memory_without_an_index_in_an_assignment : fault_in memory_without_an_index_in_an_assignment_text ≡ Some (6, (Some 12, k.BadSelect))
+memory_without_an_index_in_an_assignment = refl
+
 -- ---- connections
 
 -- module c(output y);
@@ -318,6 +379,42 @@ names_of_the_inner_module_text =
 
 names_of_the_inner_module : fault_in names_of_the_inner_module_text ≡ Some (6, (Some 20, k.UnknownName))
 names_of_the_inner_module = refl
+
+-- module c(output q);
+--   assign q = 1;
+-- endmodule
+-- module m;
+--   c x(.q(zz + 1));
+-- endmodule
+abbrev unknown_name_in_an_output_text : Source
+unknown_name_in_an_output_text =
+    ((md (p 0 1) (x (codes "c") 1 1) ([]) (Some ((t.declared_port (dr (p 3 1) t.output None false None) (x (codes
+    "q") 4 1)) ∷ [])) (t.more_item (t.continuous (p 7 2) ((dv (t.name (x (codes "q") 8 2) t.no_select) (p 9 2)
+    (t.number (p 10 2) (lit 32 false true 1 0))) ∷ [])) t.no_item)) ∷ (md (p 13 4) (x (codes "m") 14 4) ([]) None
+    (t.more_item (t.instances (x (codes "c") 16 5) None ((ins (x (codes "x") 17 5) (Some (t.by_name ((nb (p 19 5) (x
+    (codes "q") 20 5) (Some (t.chain (t.read (x (codes "zz") 22 5) t.no_select) (t.more_link b.Add (p 23 5) (t.number
+    (p 24 5) (lit 32 false true 1 0)) t.no_link)))) ∷ [])))) ∷ [])) t.no_item)) ∷ [])
+
+unknown_name_in_an_output : fault_in unknown_name_in_an_output_text ≡ Some (6, (Some 22, k.UnknownName))
+unknown_name_in_an_output = refl
+
+-- module c(output q);
+--   assign q = 1;
+-- endmodule
+-- module m;
+--   c x(.q(1 + zz));
+-- endmodule
+abbrev unknown_name_behind_the_start_of_an_output_text : Source
+unknown_name_behind_the_start_of_an_output_text =
+    ((md (p 0 1) (x (codes "c") 1 1) ([]) (Some ((t.declared_port (dr (p 3 1) t.output None false None) (x (codes
+    "q") 4 1)) ∷ [])) (t.more_item (t.continuous (p 7 2) ((dv (t.name (x (codes "q") 8 2) t.no_select) (p 9 2)
+    (t.number (p 10 2) (lit 32 false true 1 0))) ∷ [])) t.no_item)) ∷ (md (p 13 4) (x (codes "m") 14 4) ([]) None
+    (t.more_item (t.instances (x (codes "c") 16 5) None ((ins (x (codes "x") 17 5) (Some (t.by_name ((nb (p 19 5) (x
+    (codes "q") 20 5) (Some (t.chain (t.number (p 22 5) (lit 32 false true 1 0)) (t.more_link b.Add (p 23 5) (t.read
+    (x (codes "zz") 24 5) t.no_select) t.no_link)))) ∷ [])))) ∷ [])) t.no_item)) ∷ [])
+
+unknown_name_behind_the_start_of_an_output : fault_in unknown_name_behind_the_start_of_an_output_text ≡ Some (6, (Some 22, k.BadTarget))
+unknown_name_behind_the_start_of_an_output = refl
 
 -- ---- formats and arguments
 
@@ -651,8 +748,37 @@ two_edges_wait_text =
     20 2)) (t.read (x (codes "rst") 21 2) t.no_select)) ∷ [])) (t.assign (t.name (x (codes "q") 23 2) t.no_select)
     t.nonblocking (p 24 2) (t.number (p 25 2) (lit 32 false true 1 0)))) t.no_item)) ∷ [])
 
-two_edges_wait : verdict_in two_edges_wait_text ≡ late
+two_edges_wait : verdict_in two_edges_wait_text ≡ refused 7 (Some 17) k.AsyncControl
 two_edges_wait = refl
+
+-- module m(input clk, input d, output reg q);
+--   always @(negedge clk) q <= d;
+-- endmodule
+abbrev negative_edge_waits_text : Source
+negative_edge_waits_text =
+    ((md (p 0 1) (x (codes "m") 1 1) ([]) (Some ((t.declared_port (dr (p 3 1) t.input None false None) (x (codes
+    "clk") 4 1)) ∷ (t.declared_port (dr (p 6 1) t.input None false None) (x (codes "d") 7 1)) ∷ (t.declared_port (dr
+    (p 9 1) t.output (Some t.reg) false None) (x (codes "q") 11 1)) ∷ [])) (t.more_item (t.always (p 14 2) (t.sensed
+    ((sn (t.negative_edge (p 17 2)) (t.read (x (codes "clk") 18 2) t.no_select)) ∷ [])) (t.assign (t.name (x (codes
+    "q") 20 2) t.no_select) t.nonblocking (p 21 2) (t.read (x (codes "d") 22 2) t.no_select))) t.no_item)) ∷ [])
+
+negative_edge_waits : verdict_in negative_edge_waits_text ≡ refused 7 (Some 17) k.NegativeEdge
+negative_edge_waits = refl
+
+-- module m(input clk, input d, output reg q);
+--   always @(d or posedge clk) q <= d;
+-- endmodule
+abbrev edge_and_value_wait_text : Source
+edge_and_value_wait_text =
+    ((md (p 0 1) (x (codes "m") 1 1) ([]) (Some ((t.declared_port (dr (p 3 1) t.input None false None) (x (codes
+    "clk") 4 1)) ∷ (t.declared_port (dr (p 6 1) t.input None false None) (x (codes "d") 7 1)) ∷ (t.declared_port (dr
+    (p 9 1) t.output (Some t.reg) false None) (x (codes "q") 11 1)) ∷ [])) (t.more_item (t.always (p 14 2) (t.sensed
+    ((sn t.no_edge (t.read (x (codes "d") 17 2) t.no_select)) ∷ (sn (t.positive_edge (p 19 2)) (t.read (x (codes
+    "clk") 20 2) t.no_select)) ∷ [])) (t.assign (t.name (x (codes "q") 22 2) t.no_select) t.nonblocking (p 23 2)
+    (t.read (x (codes "d") 24 2) t.no_select))) t.no_item)) ∷ [])
+
+edge_and_value_wait : verdict_in edge_and_value_wait_text ≡ refused 7 (Some 19) k.AsyncControl
+edge_and_value_wait = refl
 
 -- module m(input clk, input [3:0] d, output reg [3:0] q);
 --   always @(posedge clk) if (d) q <= d; else case (d) default: ; endcase

@@ -1,6 +1,8 @@
 -- A numbered design by hand beside the design that it stands for: the same numbers, start, cycles, next states and assertions. A register that
 -- isn't written keeps its bits only where the values of the cycle have the state's.
-use Rattle.std.specs.Prelude.{◌≡◌, refl, ℕ, false, List, [], ◌∷◌, map, Some, None, codes}
+use Rattle.std.specs.Prelude.{◌≡◌, refl, ℕ, Bool, true, false, List, [], ◌∷◌, ◌++◌, map, Some, None, codes}
+use Rattle.std.specs.List.{list_any}
+use Rattle.bit_ops.specs.declared.operator.Binary.TheVariants as b
 use Rattle.bit_ops.specs.declared.operator.Unary.TheVariants as u
 use Rattle.netlist.specs.Design.{Flat}
 use Rattle.netlist.specs.Values.{Values, node_values}
@@ -19,10 +21,15 @@ use Rattle.netlist.specs.declared.node.Operation.TheVariants as o
 use Rattle.vl_tree.specs.Syntax as t
 use Rattle.vl_tree.specs.Syntax.{Source}
 use Rattle.vl_design.specs.Design.{Design}
-use Rattle.vl_process.specs.Parts.{Part, driven_parts, register_parts}
+use Rattle.design_names.specs.Stops.{event_stops}
+use Rattle.vl_value.specs.Reads.{up_to}
+use Rattle.vl_design.specs.Lists.{each_of}
+use Rattle.vl_process.specs.Parts.{Part, driven_parts, register_parts, part_readings, path_at, is_read_in}
+use Rattle.vl_process.specs.Stops.{block_assertions}
+use Rattle.vl_process.specs.FlatReads.{reads_bit, events_at}
 use Rattle.vl_process.specs.Processes.{blocks}
 use Rattle.vl_process.specs.Run.{initial, next, fires}
-use Rattle.vl_process.specs.StandsFor.{scope_by_number, signals_by_number, inputs_by_number, range_of, whole_state, all_fired_by, block_scope}
+use Rattle.vl_process.specs.StandsFor.{scope_by_number, signals_by_number, inputs_by_number, range_of, whole_state, all_fired_by, assertion_of, block_scope}
 use Rattle.vl_process.proofs.Build.{p, x, dr, dv, sn, md, design_in, values, each_driven, fired}
 
 -- module m(input clk, input en, input d, output reg q, output w);
@@ -167,3 +174,41 @@ fires_so = refl
 
 quiet_alike : all_fired_by flat (flat_fired flat (cycle 1 1 0 1)) ≡ fires kept (cycle 1 1 0 1)
 quiet_alike = refl
+
+assertions_alike : map assertion_of (event_stops 0 (events_at flat.blocks 0)) ∷ [] ≡ map block_assertions (blocks kept)
+assertions_alike = refl
+
+-- one that never fires is there as well
+-- module m(input clk, input a);
+--   always @(posedge clk) if (a & ~a) $stop; else begin $fatal; end
+-- endmodule
+abbrev never_text : Source
+never_text =
+    ((md (p 0 1) (x (codes "m") 1 1) ([]) (Some ((t.declared_port (dr (p 3 1) t.input None false None) (x (codes
+    "clk") 4 1)) ∷ (t.declared_port (dr (p 6 1) t.input None false None) (x (codes "a") 7 1)) ∷ [])) (t.more_item
+    (t.always (p 10 2) (t.sensed ((sn (t.positive_edge (p 13 2)) (t.read (x (codes "clk") 14 2) t.no_select)) ∷ []))
+    (t.conditional (t.more_branch (p 16 2) (t.chain (t.read (x (codes "a") 18 2) t.no_select) (t.more_link b.And (p
+    19 2) (t.unary (p 20 2) u.Not (t.read (x (codes "a") 21 2) t.no_select)) t.no_link)) (t.stop (p 23 2)
+    t.no_argument) t.no_branch) (t.else_stmt (t.block (p 26 2) None (t.more_stmt (t.fatal (p 27 2) false)
+    t.no_stmt))))) t.no_item)) ∷ [])
+
+never : map block_assertions (blocks (design_in never_text)) ≡ (record { place = p 23 2; fatal = false } ∷ record { place = p 27 2; fatal = true } ∷ []) ∷ []
+never = refl
+
+-- ---- what w reads: q, and no other bit
+
+abbrev reads_here : List Bool
+reads_here = map (λ k. list_any (is_read_in (path_at kept k) 0 1) (each_of (part_readings kept) (driven_parts kept))) (up_to 5)
+
+reads_alike : map (λ k. reads_bit flat 1 k 0) (up_to 5) ≡ reads_here
+reads_alike = refl
+
+-- of the same value, and yet not what the text reads: ~q that keeps en
+abbrev reading_more : Flat
+reading_more = record flat { nodes = nodes ++ node (o.Keep 1 2) ∷ [] }
+
+reads_more : map (λ k. reads_bit reading_more 5 k 0) (up_to 5) ≡ false ∷ true ∷ false ∷ true ∷ false ∷ []
+reads_more = refl
+
+reads_so : reads_here ≡ false ∷ false ∷ false ∷ true ∷ false ∷ []
+reads_so = refl

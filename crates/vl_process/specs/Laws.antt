@@ -5,6 +5,7 @@ use Rattle.std.specs.Prelude.{◌≡◌, ◌↔◌, ◌<◌, ℕ, suc, List, len
 use Rattle.std.specs.List.{range_with_len}
 use Rattle.netlist.specs.Design.{Flat}
 use Rattle.netlist.specs.Fits.{IsWellFormed}
+use Rattle.netlist.specs.Graph as graph
 use Rattle.netlist.specs.Order.{IsOrder}
 use Rattle.netlist.specs.Values.{Values}
 use Rattle.netlist.specs.Run.{State, FlatSettles, flat_start, flat_next, flat_fired}
@@ -16,6 +17,7 @@ use Rattle.vl_design.specs.Design.{Design, elaborated}
 use Rattle.vl_process.specs.Settling.{Fits, Settles, RowFits}
 use Rattle.vl_process.specs.Run.{IsRun, RowsFit, row_at, fires}
 use Rattle.vl_process.specs.Shown.{scope_of, shown}
+use Rattle.vl_process.specs.Parts.{ReadsPart}
 use Rattle.vl_process.specs.StandsFor.{StandsFor, StateFits, whole_state, all_fired_by}
 
 -- a law: the same valuations settle
@@ -26,6 +28,10 @@ SettlesLaw = (f : Flat) (d : Design) (s : State) (row : List ℕ) (v : Values) �
 -- a law: the same assertions fire, in the same order
 abbrev pub FiresLaw : Type 0
 FiresLaw = (f : Flat) (d : Design) (v : Values) → StandsFor f d → Fits d v → all_fired_by f (flat_fired f v) ≡ fires d v
+
+-- a law: the same driven parts read one another, so the orders and the loops are the same
+abbrev pub ReadsLaw : Type 0
+ReadsLaw = (f : Flat) (d : Design) (i j : ℕ) → IsWellFormed f → StandsFor f d → graph.ReadsPart f i j ↔ ReadsPart d i j
 
 -- states and values are those of a run of a numbered design over rows
 pub record IsFlatRun (f : Flat) (rows : List (List ℕ)) (states : ℕ → State) (values : ℕ → Values) : Type 0 where

@@ -16,5 +16,7 @@ pub mod DriverFaults
 pub mod ClockFaults
 pub mod NotBuilt
 pub mod Verdict
+pub mod Stops
+pub mod FlatReads
 pub mod StandsFor
 pub mod Laws

@@ -1,18 +1,18 @@
 -- The faults of phase 6 of a design's pieces: names, sizes, targets and formats (IEEE 1364-2005, 6.1, 9.2, 12.3.9, 17.1 and 17.4).
 -- Limits and places are this project's own. What stands in functions, and a loop's header, isn't looked at here: designs
 -- that have one aren't built yet.
-use Rattle.std.specs.Prelude.{◌==◌, Bool, true, false, ◌&&◌, if◌then◌else◌, List, [], ◌∷◌, ◌++◌, is_some, Option, Some, None}
+use Rattle.std.specs.Prelude.{◌==◌, Bool, true, false, ◌&&◌, not, if◌then◌else◌, List, [], ◌∷◌, ◌++◌, is_some, Option, Some, None}
 use Rattle.std.specs.List.{list_any}
 use Rattle.message_format.specs.Formatted.{formatted}
 use Rattle.vl_tree.specs.declared.fault.FaultKind.TheVariants.{UnknownName, BadTarget, BadFormat}
 use Rattle.vl_tree.specs.Syntax as t
 use Rattle.vl_tree.specs.Syntax.{Place, Name, Expr, Exprs, more_expr, no_expr, read, concat, Selects, Target, Targets, name, targets, no_target, more_target, Printed, format, Stopped, argument, Stmt, Stmts, no_stmt, more_stmt, Branches, no_branch, more_branch, Otherwise, no_else, else_stmt, Arms, no_arm, more_arm, default_arm, Sensed, Event, sensed, Driven}
 use Rattle.vl_value.specs.Paths.{Text, Path, same_path, below}
-use Rattle.vl_value.specs.Things.{Thing, signal, memory}
+use Rattle.vl_value.specs.Things.{Thing, signal, memory, routine}
 use Rattle.vl_value.specs.Meaning.{Meaning, at_rest, meanings, own}
 use Rattle.vl_value.specs.Constant.{Sight, is_fixed}
 use Rattle.vl_value.specs.Order.{Found, at}
-use Rattle.vl_value.specs.Faults.{start, wide, Chosen, of_vector, of_name, faults, all_faults, select_faults, chosen, needed_faults, constant_meaning}
+use Rattle.vl_value.specs.Faults.{start, wide, Chosen, of_name, faults, all_faults, select_faults, chosen, needed_faults, constant_meaning}
 use Rattle.vl_design.specs.Lists.{each_of}
 use Rattle.vl_design.specs.Declarations.{Kind, net, register, whole_number}
 use Rattle.vl_design.specs.Scopes.{Scope}
@@ -45,24 +45,24 @@ pub data Written : Type 0 where
   variables : Written
   registers : Written
 
--- a name where a net is written; an index that isn't constant is BadTarget
-abbrev pub net_faults : List Scope → Bool → Option Thing → Place → List Found → List Chosen → List Found
-net_faults ss fixed None p fs ks = at p UnknownName ∷ []
-net_faults ss fixed (Some (signal q sh)) p fs ks = if is_net ss q && fixed then of_vector sh p fs ks
-    else at p BadTarget ∷ []
-net_faults ss fixed (Some x) p fs ks = at p BadTarget ∷ []
+-- what is wrong with a name's selects, whoever writes it: the same as where it is read; that a function's name isn't called there is no
+-- fault of its own
+abbrev pub selected_faults : Thing → Place → List Found → List Chosen → List Found
+selected_faults (routine inside q sh shs) p fs ks = []
+selected_faults x p fs ks = of_name (Some x) p fs ks
 
--- a name where a variable is written, or, where m says so, a memory's word
-abbrev pub variable_faults : List Scope → Bool → Option Thing → Place → List Found → List Chosen → List Found
-variable_faults ss m None p fs ks = at p UnknownName ∷ []
-variable_faults ss m (Some (signal q sh)) p fs ks = if is_net ss q then at p BadTarget ∷ [] else of_vector sh p fs ks
-variable_faults ss true (Some (memory q sh first last)) p fs ks = of_name (Some (memory q sh first last)) p fs ks
-variable_faults ss m (Some x) p fs ks = at p BadTarget ∷ []
+-- whether a thing may be written, with constant selects or with others
+abbrev pub may_write : List Scope → Written → Bool → Thing → Bool
+may_write ss nets fixed (signal q sh) = is_net ss q && fixed
+may_write ss w fixed (signal q sh) = not (is_net ss q)
+may_write ss variables fixed (memory q sh first last) = true
+may_write ss w fixed x = false
 
+-- a name that is written: its selects' faults, and BadTarget where it is none that may be
 abbrev pub written_faults : List Scope → Written → Bool → Option Thing → Place → List Found → List Chosen → List Found
-written_faults ss nets fixed x p fs ks = net_faults ss fixed x p fs ks
-written_faults ss variables fixed x p fs ks = variable_faults ss true x p fs ks
-written_faults ss registers fixed x p fs ks = variable_faults ss false x p fs ks
+written_faults ss w fixed None p fs ks = at p UnknownName ∷ []
+written_faults ss w fixed (Some x) p fs ks = selected_faults x p fs ks
+    ++ (if may_write ss w fixed x then [] else at p BadTarget ∷ [])
 
 -- a target in braces has 128 bits at most
 abbrev mutual
@@ -76,13 +76,14 @@ abbrev mutual
   all_target_faults ss w s no_target = []
   all_target_faults ss w s (more_target g ts) = target_faults ss w s g ++ all_target_faults ss w s ts
 
--- what is connected to an output: a name with its selects, or such in braces; anything else is no target
+-- What is connected to an output: a name with its selects, or such in braces. Anything else is no target, beside its own faults, of which
+-- one at the same token comes first.
 abbrev mutual
   pub output_faults : List Scope → Sight → Expr → List Found
   output_faults ss s (read x ks) = target_faults ss nets s (name x ks)
   output_faults ss s (concat p es) = outputs_faults ss s es ++ wide p (outputs_faults ss s es)
       (spots_width (spots (at_rest s) (target_of (concat p es))))
-  output_faults ss s e = at (start e) BadTarget ∷ []
+  output_faults ss s e = faults s e ++ at (start e) BadTarget ∷ []
 
   pub outputs_faults : List Scope → Sight → Exprs → List Found
   outputs_faults ss s no_expr = []

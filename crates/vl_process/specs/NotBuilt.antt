@@ -1,14 +1,14 @@
 -- Which designs aren't built yet, by the constructs that stand in their instances (this project's own; the list gets shorter): memories,
--- first values of variables, `initial` blocks, functions, blocks that wait for anything but one positive edge; and in blocks
+-- first values of variables, `initial` blocks, functions, combinational blocks; and in blocks
 -- `case`, `for`, `$write`, `$fwrite`, `$fatal`, and targets in braces or with a select at a place that varies.
-use Rattle.std.specs.Prelude.{Bool, true, false, ◌||◌, not, List, [], ◌∷◌}
+use Rattle.std.specs.Prelude.{Bool, true, false, ◌||◌, not}
 use Rattle.std.specs.List.{list_any}
 use Rattle.vl_tree.specs.Syntax as t
-use Rattle.vl_tree.specs.Syntax.{Target, name, targets, Print, display, write, Stmt, Stmts, no_stmt, more_stmt, Branches, no_branch, more_branch, Otherwise, no_else, else_stmt, Edge, positive_edge, negative_edge, no_edge, Sensed, Event, any_read, any_read_list, sensed, Variable, variable, valued, memory, Item, Items, no_item, more_item, registers, integer, always, initial, function, region}
+use Rattle.vl_tree.specs.Syntax.{Target, name, targets, Print, display, write, Stmt, Stmts, no_stmt, more_stmt, Branches, no_branch, more_branch, Otherwise, no_else, else_stmt, Event, Variable, variable, valued, memory, Item, Items, no_item, more_item, registers, integer, always, initial, function, region}
 use Rattle.vl_value.specs.Constant.{Sight, is_fixed}
 use Rattle.vl_design.specs.Scopes.{Scope}
 use Rattle.vl_design.specs.Design.{Design}
-use Rattle.vl_process.specs.Processes.{scope_sight}
+use Rattle.vl_process.specs.Processes.{scope_sight, has_edge}
 
 abbrev pub is_late_target : Sight → Target → Bool
 is_late_target s (name x ks) = not (is_fixed s ks)
@@ -43,18 +43,9 @@ abbrev mutual
   is_late_else s no_else = false
   is_late_else s (else_stmt b) = is_late_stmt s b
 
-abbrev pub is_positive : Edge → Bool
-is_positive (positive_edge p) = true
-is_positive _ = false
-
--- one positive edge
-abbrev pub waits_for_one : List Sensed → Bool
-waits_for_one (e ∷ []) = is_positive e.edge
-waits_for_one _ = false
-
+-- a combinational block
 abbrev pub is_late_event : Event → Bool
-is_late_event (sensed es) = not (waits_for_one es)
-is_late_event _ = true
+is_late_event e = not (has_edge e)
 
 abbrev pub is_late_variable : Variable → Bool
 is_late_variable (variable x) = false

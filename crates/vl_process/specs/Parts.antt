@@ -6,6 +6,7 @@ use Rattle.vl_tree.specs.Syntax.{Target, Targets, name, targets, no_target, more
 use Rattle.vl_value.specs.Paths.{Path, same_path}
 use Rattle.vl_value.specs.Constant.{Sight}
 use Rattle.vl_value.specs.Reads.{Reading, bit, words, reads, select_reads, up_to}
+use Rattle.vl_design.specs.Lists.{each_of}
 use Rattle.vl_design.specs.Design.{Design, Signal}
 use Rattle.vl_process.specs.Aims.{Aimed, is_aimed}
 use Rattle.vl_process.specs.Processes.{Driver, assignment, drivers, driver_aims, blocks, block_aims}
@@ -68,24 +69,30 @@ abbrev mutual
 abbrev pub driver_reads : Driver → Path → ℕ → List Reading
 driver_reads (assignment s g u e) p k = reads u e ++ target_reads s g
 
+-- whether it is a bit of a vector, of so many from a place upward
 abbrev pub is_read_in : Path → ℕ → ℕ → Reading → Bool
 is_read_in p low width (bit q k) = same_path p q && (nat_le low k && nat_lt k (low + width))
 is_read_in p low width (words q) = false
 
--- whether some bit of a part reads a bit of another one
-abbrev pub reads_part_of : Driver → Path → Part → Path → Part → Bool
-reads_part_of r x p y q = list_any (λ k. list_any (is_read_in y q.low q.width) (driver_reads r x (p.low + k))) (up_to p.width)
+-- whether it is a memory
+abbrev pub is_read_word : Path → Reading → Bool
+is_read_word p (bit q k) = false
+is_read_word p (words q) = same_path p q
 
 abbrev pub path_at : Design → ℕ → Path
 path_at d n = elim (slice_get d.signals n) [ Some x ↦ x.path | None ↦ [] ]
 
-abbrev pub part_reads : Design → Part → Part → Bool
-part_reads d p q = elim (slice_get (drivers d) p.owner) [
-  | Some r ↦ reads_part_of r (path_at d p.signal) p (path_at d q.signal) q
-  | None ↦ false
+-- what the bits of a part read
+abbrev pub part_readings : Design → Part → List Reading
+part_readings d p = elim (slice_get (drivers d) p.owner) [
+  | Some r ↦ each_of (λ k. driver_reads r (path_at d p.signal) (p.low + k)) (up_to p.width)
+  | None ↦ []
 ]
 
--- the driven part of a number reads that of another
+-- the driven part of a number reads that of another: some bit of the one reads a bit of the other
+abbrev pub part_reads : Design → Part → Part → Bool
+part_reads d p q = list_any (is_read_in (path_at d q.signal) q.low q.width) (part_readings d p)
+
 abbrev pub ReadsPart : Design → ℕ → ℕ → Type 0
 ReadsPart d i j = IsSomeAnd (slice_get (driven_parts d) i) (λ p. IsSomeAnd (slice_get (driven_parts d) j) (λ q.
     IsTrue (part_reads d p q)))

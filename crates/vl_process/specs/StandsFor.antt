@@ -1,15 +1,14 @@
 -- When a numbered design stands for a design: its numbers are the places in the design's lists, and what holds, settles, comes next and
 -- fires is the same. This project's own. Values of signals and memories are alike in both; a numbered state has the register
 -- parts and the written memories alone.
-use Rattle.std.specs.Prelude.{◌≡◌, ◌↔◌, ◌<◌, ◌^◌, ℕ, suc, ◌==◌, ◌++◌, Bool, false, ◌&&◌, if◌then◌else◌, List, [], ◌∷◌, map, length, slice_get, slice_index, slice_index_or, pos, Option, Some, None, IsTrue, Contains, take, sum_by}
-use Rattle.std.specs.List.{All}
+use Rattle.std.specs.Prelude.{◌≡◌, ◌↔◌, ◌<◌, ◌^◌, ℕ, suc, ◌++◌, Bool, ◌&&◌, if◌then◌else◌, List, [], ◌∷◌, map, length, slice_get, slice_index, pos, Option, Some, None, IsTrue, Contains, take, sum_by}
+use Rattle.std.specs.List.{All, list_any}
 use Rattle.bit_ops.specs.Operators.{select}
 use Rattle.netlist.specs.Design.{Flat}
 use Rattle.netlist.specs.Plain.{PlainMemory, PlainBlock}
 use Rattle.netlist.specs.Values.{Values, node_values}
 use Rattle.netlist.specs.Run as run
 use Rattle.netlist.specs.Run.{State, flat_start, flat_next, put_registers, all_words}
-use Rattle.netlist.specs.Graph as graph
 use Rattle.netlist.specs.declared.design.Scope as flat_scope
 use Rattle.netlist.specs.declared.design.ScopeKind.{ScopeKind}
 use Rattle.netlist.specs.declared.design.ScopeKind.TheVariants as scope_kind
@@ -21,15 +20,11 @@ use Rattle.netlist.specs.declared.design.Role.TheVariants as role
 use Rattle.netlist.specs.declared.design.Range.{Range}
 use Rattle.netlist.specs.declared.design.DrivenPart.{DrivenPart}
 use Rattle.netlist.specs.declared.design.RegisterPart.{RegisterPart}
-use Rattle.netlist.specs.declared.design.Effect.{Effect}
-use Rattle.netlist.specs.declared.design.Effect.TheVariants as e
-use Rattle.netlist.specs.declared.design.Event.{Event}
 use Rattle.design_names.specs.Path as names
-use Rattle.design_names.specs.Stops.{flat_stops}
+use Rattle.design_names.specs.Stops.{flat_stops, event_stops}
 use Rattle.design_names.specs.declared.stops.Stop.{Stop}
 use Rattle.vl_value.specs.Paths.{Path, same_path}
 use Rattle.vl_value.specs.Things.{width_of}
-use Rattle.vl_design.specs.Lists.{each_of}
 use Rattle.vl_design.specs.Declarations as declared
 use Rattle.vl_design.specs.Scopes.{Scope, Origin}
 use Rattle.vl_design.specs.LoopVariables.{is_path_in}
@@ -39,8 +34,10 @@ use Rattle.vl_process.specs.Clocks.{clock_names}
 use Rattle.vl_process.specs.Shown.{is_instance, last_text, is_step_below}
 use Rattle.vl_process.specs.Processes.{Driver, Block, drivers, blocks, block_aims}
 use Rattle.vl_process.specs.Settling.{Fits, Settles, RowFits, AllFit, signal_width, Holds}
+use Rattle.vl_process.specs.Stops.{Assertion, block_assertions}
 use Rattle.vl_process.specs.Run.{Fired, initial, next, block_fires}
-use Rattle.vl_process.specs.Parts.{Part, owner_from, driven_parts, register_parts, ReadsPart}
+use Rattle.vl_process.specs.Parts.{Part, owner_from, driven_parts, register_parts, part_readings, is_read_in, is_read_word}
+use Rattle.vl_process.specs.FlatReads.{reads_bit, reads_memory, events_at, block_nodes}
 
 -- ---- scopes, signals and memories by number
 
@@ -150,6 +147,18 @@ PartsHold f d v r = OwnedHold f v r (driven_parts d) f.driven
 abbrev pub DriverStands : Flat → Design → ℕ → Driver → Type 0
 DriverStands f d r x = (v : Values) → Fits d v → Holds d v x ↔ PartsHold f d v r
 
+-- a driven part's node reads a bit, or words of a memory, exactly where some bit of the part reads it
+pub record PartReads (f : Flat) (d : Design) (q : Part) (p : DrivenPart) : Type 0 where
+  pub bits : (x k : ℕ) (y : Signal) → slice_get d.signals x ≡ Some y → k < signal_width y
+      → reads_bit f p.node x k ≡ list_any (is_read_in y.path k 1) (part_readings d q)
+  pub words : (m : ℕ) (y : Memory) → slice_get d.memories m ≡ Some y
+      → reads_memory f p.node m ≡ list_any (is_read_word y.path) (part_readings d q)
+
+abbrev pub AllRead : Flat → Design → List Part → List DrivenPart → Type 0
+AllRead f d [] ps = Unit {0}
+AllRead f d (q ∷ qs) [] = Unit {0}
+AllRead f d (q ∷ qs) (p ∷ ps) = PartReads f d q p × AllRead f d qs ps
+
 -- ---- states
 
 -- the values that a numbered state is: the register parts have their bits, the written memories their words, and all else is what it is
@@ -191,12 +200,16 @@ all_fired_by f (x ∷ xs) = fired_by f (slice_get (flat_stops f) x.stop) x.messa
 abbrev pub block_scope : Design → Block → Option ℕ
 block_scope d x = scope_from 0 (λ p. same_path p x.scope.level.path) d.scopes
 
-abbrev pub events_at : List PlainBlock → ℕ → List Event
-events_at bs b = elim (slice_get bs b) [ Some x ↦ x.events | None ↦ [] ]
-
 -- the number of the first stop of a block: that of all stops of the blocks before it
 abbrev pub first_stop : List PlainBlock → ℕ → ℕ
 first_stop bs b = sum_by (λ (x : PlainBlock). run.stop_count x.events) (take b bs)
+
+-- the assertions of a block are those of the text, in order, whether they ever fire or not
+abbrev pub assertion_of : Stop → Assertion
+assertion_of x = record { place = record { token = x.place.token; line = x.place.line }; fatal = x.fatal }
+
+abbrev pub HasAssertions : Flat → ℕ → Block → Type 0
+HasAssertions f b x = map assertion_of (event_stops 0 (events_at f.blocks b)) ≡ block_assertions x
 
 -- what fires of a block at these values is what fires of the design's, whether they settle or not
 abbrev pub BlockStands : Flat → Design → ℕ → Block → Type 0
@@ -216,28 +229,13 @@ instance_from found (s ∷ ss) p = instance_from (if is_instance s.origin && beg
 abbrev pub instance_around : Design → Path → Path
 instance_around d p = instance_from [] d.scopes p
 
--- the nodes that a block reads: what its register parts take next, and of its events the conditions and what is shown
-abbrev pub next_node : ℕ → RegisterPart → List ℕ
-next_node b p = if p.block == b then p.next ∷ [] else []
-
-abbrev pub shown_node : Effect → List ℕ
-shown_node (e.Showed s) = s.node ∷ []
-shown_node (e.Said t) = []
-shown_node (e.Stopped p z) = []
-
-abbrev pub event_nodes : Event → List ℕ
-event_nodes x = x.condition ∷ shown_node x.effect
-
-abbrev pub block_nodes : Flat → ℕ → List ℕ
-block_nodes f b = each_of (next_node b) f.registers ++ each_of event_nodes (events_at f.blocks b)
-
--- whether a node reads a bit of the signal of a number
-abbrev pub reads_signal : Flat → ℕ → ℕ → Bool
-reads_signal f n x = slice_index_or (graph.nodes_read (record { signal = x; low = 0; width = 128 }) [] f.nodes) n false
-
+-- a block's nodes read signals and memories of its instance alone
 abbrev pub IsLocal : Flat → Design → ℕ → Block → Type 0
-IsLocal f d b x = (n k : ℕ) (y : Signal) → Contains (block_nodes f b) n → slice_get d.signals k ≡ Some y
-    → IsTrue (reads_signal f n k) → instance_around d y.path ≡ instance_around d x.scope.level.path
+IsLocal f d b x = (n : ℕ) → Contains (block_nodes f b) n →
+    ((k p : ℕ) (y : Signal) → slice_get d.signals k ≡ Some y → p < signal_width y → IsTrue (reads_bit f n k p)
+    → instance_around d y.path ≡ instance_around d x.scope.level.path)
+    × ((m : ℕ) (y : Memory) → slice_get d.memories m ≡ Some y → IsTrue (reads_memory f n m)
+    → instance_around d y.path ≡ instance_around d x.scope.level.path)
 
 -- ---- the whole; the next state is the design's where the values are those of a cycle, since a register part that isn't written takes
 -- its own bits of them
@@ -251,10 +249,11 @@ pub record StandsFor (f : Flat) (d : Design) : Type 0 where
   pub driven : map (λ p. p.range) f.driven ≡ map range_of (driven_parts d)
   pub registers : OwnedBy (register_parts d) f.registers
   pub drives : (r : ℕ) (x : Driver) → slice_get (drivers d) r ≡ Some x → DriverStands f d r x
-  pub reads : (i j : ℕ) → graph.ReadsPart f i j ↔ ReadsPart d i j
+  pub reads : AllRead f d (driven_parts d) f.driven
   pub next_state : (s : State) (row : List ℕ) (v : Values) → StateFits f s → RowFits d row
       → Settles d (whole_state f s) row v
       → (whole_state f (flat_next f s v) ≡ next d (whole_state f s) v) × StateFits f (flat_next f s v)
   pub blocks_stand : map (λ x. Some x.scope) f.blocks ≡ map (block_scope d) (blocks d)
+  pub assertions : (b : ℕ) (x : Block) → slice_get (blocks d) b ≡ Some x → HasAssertions f b x
   pub fired : (b : ℕ) (x : Block) → slice_get (blocks d) b ≡ Some x → BlockStands f d b x
   pub local : (b : ℕ) (x : Block) → slice_get (blocks d) b ≡ Some x → IsLocal f d b x
