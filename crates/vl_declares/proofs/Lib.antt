@@ -1,2 +1,4 @@
 pub mod Adding
+mod ItemByItem
+mod PlainItems
 mod PortByPort

@@ -12,6 +12,7 @@ pub mod function;
 pub mod header;
 pub mod header_ports;
 pub mod inputs;
+pub mod item;
 pub mod names;
 pub mod ranged;
 pub mod values;

@@ -1,1 +1,3 @@
+pub mod Adding
+mod Giving
 mod Weighing

@@ -7,5 +7,6 @@
 //! Not said: that memory is enough.
 #![tactic(auto)]
 
+pub mod given;
 pub mod open;
 pub mod worth;

@@ -1,3 +1,4 @@
+mod Repeated
 mod Finding
 mod Gathering
 mod Roots

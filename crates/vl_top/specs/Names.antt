@@ -6,6 +6,8 @@ use Rattle.std.specs.Borrow.{Bor}
 use Rattle.vl_tree.specs.Syntax as t
 use Rattle.vl_tree.specs.SyntaxView as view
 use Rattle.vl_tree.specs.declared.item.Module.{Module}
+use Rattle.vl_tree.specs.declared.fault.FaultKind.TheVariants.{DuplicateModule}
+use Rattle.vl_value.specs.Order.{Found, at}
 use Rattle.vl_design.specs.Scopes.{module_at}
 use Rattle.vl_design.specs.Walk.{some_instantiates}
 
@@ -45,3 +47,7 @@ is_unused find m = not (is_some (find (tree_of m).name.text))
 -- a name has a module's tree now, and the others what they had
 abbrev pub SetsModule : (List ℕ → Option (Bor Module)) → (List ℕ → Option (Bor Module)) → List ℕ → t.Module → Type 0
 SetsModule old new name m = (x : List ℕ) → option_map tree_of (new x) ≡ (if bytes_eq name x then Some m else option_map tree_of (old x))
+
+-- a module whose name is known
+abbrev pub duplicate_here : Bool → t.Name → List Found
+duplicate_here b x = if b then at x.place DuplicateModule ∷ [] else []

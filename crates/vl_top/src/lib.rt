@@ -1,8 +1,8 @@
 //! The modules of a source: by name, and which of them is the top.
 //!
-//! Below: `vl_design` (what the top is), `vl_tree` (trees). Above: what builds a design's scopes.
+//! Below: `vl_design` (what the top is), `vl_found` (faults), `vl_tree` (trees). Above: what builds a design's scopes.
 //! Promise: `modules_by_name` gives the first module of each name; `top_of` the module of the name that is asked for, or the
-//! one that no module instantiates, exactly as `vl_design` says.
+//! one that no module instantiates, exactly as `vl_design` says; `duplicate_module` the least fault of second modules of a name.
 //! The time is linear, as far as hashing goes: the names that are instantiated are gathered once.
 //! Not said: that memory is enough.
 #![tactic(auto)]
@@ -13,10 +13,12 @@ ghost use Rattle.vl_tree.specs.SyntaxView as view;
 ghost use Rattle.vl_design.specs.Walk as walk;
 ghost use Rattle.vl_top.specs.Names.{FindsModules, asked, tree_of};
 
+mod duplicates;
 mod first;
 mod root;
 mod used;
 
+pub use crate::duplicates::{duplicate_module, first_token};
 use crate::first::first_modules;
 pub use crate::first::modules_by_name;
 use crate::root::only_root;

@@ -10,7 +10,7 @@ use Rattle.vl_design.specs.Declarations.{parameter_by}
 use Rattle.vl_constants.specs.Needed.{constants_of}
 use Rattle.vl_parameters.specs.Plain.{plain_given, plain_type}
 use Rattle.vl_declares.specs.Plain.{all_plain}
-use Rattle.vl_declares.proofs.Adding.{more_on, fault_on, fault_end}
+use Rattle.vl_parameters.proofs.Adding.{some_on, fault_on, fault_end}
 use Rattle.vl_declares.proofs.header.declare_header.Goals as goal
 
 pub loop-one-preserved : goal.loop-one-preserved
@@ -29,7 +29,7 @@ loop-one-preserved c =
     let e : drop n xs ≡ one ∷ drop (n + 1) xs = drop_more xs n one c.loop-one-test.true ∙ ap (λ y. y ∷ drop (n + 1) xs) (sym c.one-item.is) in
     record {
       added = (λ i. new ++ map parameter_by (header_worth gs (d.kind i) (kn i) left))
-          ∙ more_on old new (map parameter_by worths) (map parameter_by rest) _
+          ∙ some_on old new (map parameter_by worths) (map parameter_by rest) _
           (d.added ∙ ap (λ (r : ParameterType). old ++ map parameter_by (values_worth gs r k (header_values v))) d.kind)
           (ap (λ ds. old ++ ds) (sym (map-append parameter_by worths rest))
           ∙ ap (λ ys. old ++ map parameter_by (header_worth gs t k (map view.header_parameter ys))) (sym e) ∙ h.added);

@@ -11,7 +11,8 @@ use Rattle.vl_design.specs.Declarations.{header_ports, port_needs}
 use Rattle.vl_constants.specs.Needed.{constants_of}
 use Rattle.vl_declares.specs.Plain.{all_plain}
 use Rattle.vl_declares.specs.HeaderPorts.{words_of, words_behind, port_here}
-use Rattle.vl_declares.proofs.Adding.{more_on, fault_on, fault_end, ports_on}
+use Rattle.vl_parameters.proofs.Adding.{some_on, fault_on, fault_end}
+use Rattle.vl_declares.proofs.Adding.{ports_on}
 use Rattle.vl_declares.proofs.header_ports.declare_header_ports.Goals as goal
 
 pub loop-port-preserved : goal.loop-port-preserved
@@ -26,7 +27,7 @@ loop-port-preserved c =
     record {
       holds = d.holds;
       added = ap (λ (q : Option t.Directed). new ++ header_ports g q left) d.words
-          ∙ more_on old new (port_here g w p) (header_ports g (words_behind w p) left) _ d.added
+          ∙ some_on old new (port_here g w p) (header_ports g (words_behind w p) left) _ d.added
           (ap (λ ds. old ++ ds) (sym (ports_on g w p left))
           ∙ ap (λ ys. old ++ header_ports g w (map view.port ys)) (sym e) ∙ c.loop-port.invariant.added);
       fault = fault_on f _ (option_map found c.lesser-fault.result) (port_needs g p) (each_of (port_needs g) left) _ c.lesser-fault.ensures d.fault

@@ -5,7 +5,7 @@ use Rattle.vl_design.specs.Lists.{each_of}
 use Rattle.vl_design.specs.Declarations.{declared_inputs}
 use Rattle.vl_constants.specs.Needed.{constants_of}
 use Rattle.vl_declares.specs.Locals.{all_locals}
-use Rattle.vl_declares.proofs.Adding.{locals_on}
+use Rattle.vl_parameters.proofs.Adding.{some_on}
 use Rattle.vl_declares.proofs.inputs.declared_inputs.Goals as goal
 
 pub loop-declaration-preserved : goal.loop-declaration-preserved
@@ -15,7 +15,7 @@ loop-declaration-preserved c =
     let d = view.function_declaration one in let left = map view.function_declaration (drop (k + 1) xs) in
     let old = all_locals c.loop-declaration.locals.items in let new = all_locals c.inputs_by.new.locals.items in
     let e : drop k xs ≡ one ∷ drop (k + 1) xs = drop_more xs k one c.loop-declaration-test.true ∙ ap (λ y. y ∷ drop (k + 1) xs) (sym c.declaration-item.is) in
-    locals_on old new (declared_inputs g d) (each_of (declared_inputs g) left) _ c.in_ok-inputs_by.ensures
+    some_on old new (declared_inputs g d) (each_of (declared_inputs g) left) _ c.in_ok-inputs_by.ensures
     (ap (λ ys. old ++ each_of (declared_inputs g) (map view.function_declaration ys)) (sym e) ∙ c.loop-declaration.invariant)
 
 pub returns : goal.returns

@@ -8,7 +8,7 @@ use Rattle.vl_design.specs.Lists.{each_of}
 use Rattle.vl_design.specs.Declarations.{declared_locals, declaration_needs}
 use Rattle.vl_constants.specs.Needed.{constants_of}
 use Rattle.vl_declares.specs.Locals.{all_locals}
-use Rattle.vl_declares.proofs.Adding.{fault_on, fault_end, locals_on}
+use Rattle.vl_parameters.proofs.Adding.{some_on, fault_on, fault_end}
 use Rattle.vl_declares.proofs.inputs.declared_locals.Goals as goal
 
 pub loop-declaration-preserved : goal.loop-declaration-preserved
@@ -20,7 +20,7 @@ loop-declaration-preserved c =
     let f = option_map found c.loop-declaration.fault in let h = c.loop-declaration.invariant in
     let e : drop k xs ≡ one ∷ drop (k + 1) xs = drop_more xs k one c.loop-declaration-test.true ∙ ap (λ y. y ∷ drop (k + 1) xs) (sym c.declaration-item.is) in
     record {
-      added = locals_on old new (declared_locals g d) (each_of (declared_locals g) left) _ c.in_ok-found.ensures.added
+      added = some_on old new (declared_locals g d) (each_of (declared_locals g) left) _ c.in_ok-found.ensures.added
           (ap (λ ys. old ++ each_of (declared_locals g) (map view.function_declaration ys)) (sym e) ∙ h.added);
       fault = fault_on f _ (option_map found c.lesser-fault.result) (declaration_needs g d) (each_of (declaration_needs g) left) _
           c.lesser-fault.ensures c.in_ok-found.ensures.fault

@@ -9,7 +9,8 @@ use Rattle.vl_design.specs.Declarations.{Local, header_inputs, input_needs}
 use Rattle.vl_span.specs.Plain.{plain_span}
 use Rattle.vl_constants.specs.Needed.{constants_of}
 use Rattle.vl_declares.specs.Locals.{all_locals, input_here}
-use Rattle.vl_declares.proofs.Adding.{fault_on, fault_end, inputs_on, locals_on}
+use Rattle.vl_parameters.proofs.Adding.{some_on, fault_on, fault_end}
+use Rattle.vl_declares.proofs.Adding.{inputs_on}
 use Rattle.vl_declares.proofs.inputs.header_inputs.Goals as goal
 
 pub loop-port-preserved : goal.loop-port-preserved
@@ -24,7 +25,7 @@ loop-port-preserved c =
     let e : drop k xs ≡ one ∷ drop (k + 1) xs = drop_more xs k one c.loop-port-test.true ∙ ap (λ y. y ∷ drop (k + 1) xs) (sym c.port-item.is) in
     record {
       added = ap (λ (l : Local). new ++ header_inputs g l.signed l.span left) d.local
-          ∙ locals_on old new (i ∷ []) (header_inputs g i.signed i.span left) _
+          ∙ some_on old new (i ∷ []) (header_inputs g i.signed i.span left) _
           (c.in_ok-push_local.ensures ∙ ap (λ (l : Local). old ++ l ∷ []) d.local)
           (ap (λ ls. old ++ ls) (sym (inputs_on g s sp p left))
           ∙ ap (λ ys. old ++ header_inputs g s sp (map view.function_port ys)) (sym e) ∙ h.added);

@@ -11,7 +11,7 @@ use Rattle.vl_design.specs.Declarations.{parameter, parameter_by}
 use Rattle.vl_constants.specs.Needed.{constants_of}
 use Rattle.vl_parameters.specs.Plain.{plain_given, plain_type}
 use Rattle.vl_declares.specs.Plain.{all_plain}
-use Rattle.vl_declares.proofs.Adding.{added_on, fault_on, fault_end}
+use Rattle.vl_parameters.proofs.Adding.{one_on, fault_on, fault_end}
 use Rattle.vl_declares.proofs.values.declare_values.Goals as goal
 
 pub loop-value-preserved : goal.loop-value-preserved
@@ -27,7 +27,7 @@ loop-value-preserved c =
     let e : drop n xs ≡ one ∷ drop (n + 1) xs = drop_more xs n one c.loop-value-test.true ∙ ap (λ y. y ∷ drop (n + 1) xs) (sym c.value-item.is) in
     record {
       added = ap (λ (q : Known). new ++ map parameter_by (values_worth gs t q left)) kn
-          ∙ added_on old new (parameter v.name w) (map parameter_by (values_worth gs t (with_constant v.name.text w k) left)) _ d.added
+          ∙ one_on old new (parameter v.name w) (map parameter_by (values_worth gs t (with_constant v.name.text w k) left)) _ d.added
           (ap (λ ys. old ++ map parameter_by (values_worth gs t k (map view.valued ys))) (sym e) ∙ h.added);
       fault = ap (λ (q : Known). lesser m (least (value_needs gs t q left))) kn
           ∙ fault_on f _ m (parameter_needs gs k t v.name v.value) (value_needs gs t (with_constant v.name.text w k) left) _

@@ -9,7 +9,7 @@ use Rattle.vl_design.specs.Declarations.{variable_by, words_needs}
 use Rattle.vl_span.specs.Plain.{plain_span}
 use Rattle.vl_constants.specs.Needed.{constants_of}
 use Rattle.vl_declares.specs.Plain.{all_plain, plain_kind}
-use Rattle.vl_declares.proofs.Adding.{added_on, fault_on, fault_end}
+use Rattle.vl_parameters.proofs.Adding.{one_on, fault_on, fault_end}
 use Rattle.vl_declares.proofs.variables.declare_variables.Goals as goal
 
 pub loop-variable-preserved : goal.loop-variable-preserved
@@ -21,7 +21,7 @@ loop-variable-preserved c =
     let left = map view.variable (drop (k + 1) xs) in
     let e : drop k xs ≡ one ∷ drop (k + 1) xs = drop_more xs k one c.loop-variable-test.true ∙ ap (λ y. y ∷ drop (k + 1) xs) (sym c.variable-item.is) in
     record {
-      declared = added_on old _ (by (view.variable one)) (map by left) _
+      declared = one_on old _ (by (view.variable one)) (map by left) _
           (c.in_ok-push.ensures ∙ ap (λ d. old ++ d ∷ []) c.in_ok-one.ensures.declared)
           (ap (λ ys. old ++ map by (map view.variable ys)) (sym e) ∙ c.loop-variable.invariant.declared);
       fault = fault_on (option_map found c.loop-variable.fault) _ _ (words_needs g (view.variable one)) (each_of (words_needs g) left) _
