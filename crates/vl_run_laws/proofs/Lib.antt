@@ -1,0 +1,3 @@
+mod Fires
+mod Runs
+mod Parts

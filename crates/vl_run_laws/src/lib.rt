@@ -1,0 +1,21 @@
+//! Laws of runs: what a numbered design does is what the design for which it stands does.
+//!
+//! Below: `vl_process` (what a design does, and when a numbered design stands for it), `netlist` (the run of a numbered design). Above: what
+//! makes the numbered design of a source.
+//! Promise: `fires_law`: over values that fit, the same assertions fire, in the same order, with the same messages. `parts_law`: the parts of
+//! a design are the maximal runs of bits of one driver, or of one block, in order, and each bit that has one lies in one.
+#![tactic(auto)]
+
+ghost use Rattle.vl_process.specs.Laws.{FiresLaw};
+ghost use Rattle.vl_run_laws.specs.Parts.{PartsLaw};
+
+/// Over values that fit, the same assertions fire in the numbered design and in the design, in the same order.
+pub fn fires_law()
+    ensures { FiresLaw }
+{}
+
+/// Each bit that a driver drives lies in a driven part of the first driver that does, each that a block may assign in a register part;
+/// parts have no other bits, stand in order, and two of one owner never meet.
+pub fn parts_law()
+    ensures { PartsLaw }
+{}
