@@ -1,8 +1,7 @@
 -- The parts of all signals, from the runs of each.
-use Rattle.std.proofs.Common.{◌≡◌, ℕ, zero, suc, ◌+◌, ◌<◌, ◌≤◌, ◌⊎◌, inl, inr, List, [], ◌∷◌, ◌++◌, length, map, refl, sym, ap, subst, ◌∙◌, arith}
+use Rattle.std.proofs.Common.{◌≡◌, ℕ, zero, suc, ◌+◌, ◌<◌, ◌≤◌, ◌⊎◌, inl, inr, List, [], ◌∷◌, ◌++◌, map, refl, sym, ap, subst, ◌∙◌, arith}
 use Rattle.std.specs.Prelude.{Option, Some, slice_get}
 use Rattle.std.specs.Option.{option_map}
-use Rattle.std.proofs.lemmas.Bool.{cases_lt}
 use Rattle.std.proofs.lemmas.List.{length-map}
 use Rattle.std.proofs.lemmas.Option.{slice_get-map, slice_get_within}
 use Rattle.netlist.proofs.Puts.{In}
@@ -13,6 +12,7 @@ use Rattle.vl_process.specs.Aims.{Aimed}
 use Rattle.vl_process.specs.Processes.{drivers, driver_aims, blocks, block_aims}
 use Rattle.vl_process.specs.Settling.{signal_width}
 use Rattle.vl_process.specs.Parts.{Part, owner_from, signal_parts, parts_from}
+use Rattle.vl_store.proofs.Lists.{count_up, number_up}
 use Rattle.vl_run_laws.specs.Parts.{HasPlace, StandsApart, ArePartsOf, PartsLaw}
 use Rattle.vl_run_laws.proofs.Runs.{runs_inside, runs_held, Before, Sorted, runs_sorted}
 
@@ -31,36 +31,6 @@ in_either x [] ys h = inr h
 in_either x (y ∷ xs) ys h = elim h [
   | inl e ↦ inl (inl e)
   | inr later ↦ elim (in_either x xs ys later) [ inl a ↦ inl (inr a) | inr b ↦ inr b ]
-]
-
--- an element of two lists, by its place
-get_left : {X : Type 0} (xs ys : List X) (i : ℕ) → i < length xs → slice_get (xs ++ ys) i ≡ slice_get xs i
-get_left [] ys i l = absurd (omega arith)
-get_left (x ∷ xs) ys zero l = refl
-get_left (x ∷ xs) ys (suc i) l = get_left xs ys i (omega (arith, l))
-
-get_last : {X : Type 0} (xs : List X) (x : X) (i : ℕ) → i ≡ length xs → slice_get (xs ++ x ∷ []) i ≡ Some x
-get_last [] x zero l = refl
-get_last [] x (suc i) l = absurd (omega (arith, l))
-get_last (y ∷ xs) x zero l = absurd (omega (arith, l))
-get_last (y ∷ xs) x (suc i) l = get_last xs x i (omega (arith, l))
-
-longer_by_one : {X : Type 0} (xs : List X) (x : X) → length (xs ++ x ∷ []) ≡ suc (length xs)
-longer_by_one [] x = refl
-longer_by_one (y ∷ xs) x = ap suc (longer_by_one xs x)
-
--- the numbers below another, in order
-pub count_up : (n : ℕ) → length (up_to n) ≡ n
-count_up zero = refl
-count_up (suc n) = longer_by_one (up_to n) n ∙ ap suc (count_up n)
-
-pub number_up : (n i : ℕ) → i < n → slice_get (up_to n) i ≡ Some i
-number_up zero i l = absurd (omega (arith, l))
-number_up (suc n) i l = elim (cases_lt i n) [
-  | inl less ↦ get_left (up_to n) (n ∷ []) i (subst (λ m. i < m) (sym (count_up n)) less) ∙ number_up n i less
-  | inr from ↦
-      let e : i ≡ n = omega (arith, l, from) in
-      get_last (up_to n) n i (e ∙ sym (count_up n)) ∙ ap Some (sym e)
 ]
 
 -- ---- one signal

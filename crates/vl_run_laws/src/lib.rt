@@ -1,7 +1,7 @@
 //! Laws of runs: what a numbered design does is what the design for which it stands does.
 //!
-//! Below: `vl_process` (what a design does, and when a numbered design stands for it), `netlist` (the run of a numbered design). Above: what
-//! makes the numbered design of a source.
+//! Below: `vl_store` (lists by place), `vl_process` (what a design does, and when a numbered design stands for it), `netlist` (the run of a
+//! numbered design). Above: what makes the numbered design of a source.
 //! Promise: `fires_law`: over values that fit, the same assertions fire, in the same order, with the same messages. `parts_law`: the parts of
 //! a design are the maximal runs of bits of one driver, or of one block, in order, and each bit that has one lies in one.
 #![tactic(auto)]

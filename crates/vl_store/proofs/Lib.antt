@@ -1,0 +1,4 @@
+mod Paths
+pub mod Lists
+mod Numbers
+mod Writes
