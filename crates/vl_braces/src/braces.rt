@@ -1,9 +1,10 @@
 //! Nodes side by side.
 
-ghost use Rattle.std.specs.Prelude.{◌≡◌, ◌≤◌, ◌*◌, IfOk};
+ghost use Rattle.std.specs.Prelude.{◌≡◌, ◌≤◌, ◌*◌, ◌∷◌, IfOk};
 ghost use Rattle.dt_core.specs.declared.limits.TheConstants.{MAX_WIDTH};
 ghost use Rattle.vl_nodes.specs.Calls as calls;
 ghost use Rattle.vl_value.specs.Meaning.{repeated};
+ghost use Rattle.vl_braces.specs.Braces as braces;
 
 use dt_core::fault::NoMemory;
 use vl_nodes::made::Made;
@@ -21,6 +22,19 @@ pub fn copies(nodes: &mut Nodes, of: Made, count: u32) -> Result<Made, NoMemory>
     while done < count {
         all = nodes.concat(all, of)?;
         done += 1;
+    }
+    Ok(all)
+}
+
+/// A node and others side by side, the first leftmost.
+pub fn together(nodes: &mut Nodes, first: Made, rest: &[Made]) -> Result<Made, NoMemory>
+    requires { braces.widths (first ∷ rest.now) ≤ MAX_WIDTH }
+    ensures width { IfOk result (λ m. m.width ≡ braces.widths (first ∷ rest.now)) }
+    ensures made { braces.IsBeside nodes.old nodes.new (first ∷ rest.now) result }
+{
+    let mut all = first;
+    for part in rest {
+        all = nodes.concat(all, *part)?;
     }
     Ok(all)
 }
