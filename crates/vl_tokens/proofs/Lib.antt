@@ -1,0 +1,4 @@
+pub mod Counting
+pub mod Parts
+pub mod StatementParts
+pub mod DeclarationParts
