@@ -1,4 +1,4 @@
-//! How many tokens the expressions, statements and declarations of a tree have. A count
+//! How many tokens the expressions, statements, declarations and functions of a tree have. A count
 //! stops at the most that 32 bits hold, so that it is defined for every tree.
 //!
 //! Below: `vl_tree` (trees), `vl_design` (that a tree has as many tokens wherever it stands). Above: what counts those of items.
@@ -8,4 +8,5 @@
 mod count;
 pub mod declaration;
 pub mod expression;
+pub mod function;
 pub mod statement;
