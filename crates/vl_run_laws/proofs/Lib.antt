@@ -1,3 +1,5 @@
 mod Fires
 mod Runs
 mod Parts
+mod OperatorsFit
+mod NodesFit

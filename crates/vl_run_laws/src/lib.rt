@@ -3,10 +3,11 @@
 //! Below: `vl_store` (lists by place), `vl_process` (what a design does, and when a numbered design stands for it), `netlist` (the run of a
 //! numbered design). Above: what makes the numbered design of a source.
 //! Promise: `fires_law`: over values that fit, the same assertions fire, in the same order, with the same messages. `parts_law`: the parts of
-//! a design are the maximal runs of bits of one driver, or of one block, in order, and each bit that has one lies in one.
+//! a design are the maximal runs of bits of one driver, or of one block, in order, and each bit that has one lies in one. `nodes_fit_law`: values of nodes fit.
 #![tactic(auto)]
 
 ghost use Rattle.vl_process.specs.Laws.{FiresLaw};
+ghost use Rattle.vl_run_laws.specs.NodeValues.{NodesFitLaw};
 ghost use Rattle.vl_run_laws.specs.Parts.{PartsLaw};
 
 /// Over values that fit, the same assertions fire in the numbered design and in the design, in the same order.
@@ -18,4 +19,9 @@ pub fn fires_law()
 /// parts have no other bits, stand in order, and two of one owner never meet.
 pub fn parts_law()
     ensures { PartsLaw }
+{}
+
+/// The value of each node of a well-formed design is within its width, over memories whose words are within theirs.
+pub fn nodes_fit_law()
+    ensures { NodesFitLaw }
 {}
