@@ -3,3 +3,4 @@ mod Runs
 mod Parts
 mod OperatorsFit
 mod NodesFit
+mod DrivenBits

@@ -2,11 +2,13 @@
 //!
 //! Below: `vl_store` (lists by place), `vl_process` (what a design does, and when a numbered design stands for it), `netlist` (the run of a
 //! numbered design). Above: what makes the numbered design of a source.
-//! Promise: `fires_law`: over values that fit, the same assertions fire, in the same order, with the same messages. `parts_law`: the parts of
-//! a design are the maximal runs of bits of one driver, or of one block, in order, and each bit that has one lies in one. `nodes_fit_law`: values of nodes fit.
+//! Promise: `fires_law`: over values that fit, the same assertions fire, in the same order, with the same messages. `holds_law`: all drivers
+//! hold exactly where each driven part has its node's value; `driven_bits_law`: they drive the bits of those parts. `parts_law`: the parts
+//! of a design are the maximal runs of bits of one driver, or of one block, in order. `nodes_fit_law`: values of nodes fit.
 #![tactic(auto)]
 
 ghost use Rattle.vl_process.specs.Laws.{FiresLaw};
+ghost use Rattle.vl_run_laws.specs.DrivenBits.{DrivenBitsLaw, HoldsLaw};
 ghost use Rattle.vl_run_laws.specs.NodeValues.{NodesFitLaw};
 ghost use Rattle.vl_run_laws.specs.Parts.{PartsLaw};
 
@@ -24,4 +26,14 @@ pub fn parts_law()
 /// The value of each node of a well-formed design is within its width, over memories whose words are within theirs.
 pub fn nodes_fit_law()
     ensures { NodesFitLaw }
+{}
+
+/// The bits that drivers drive are those of the driven parts of the numbered design.
+pub fn driven_bits_law()
+    ensures { DrivenBitsLaw }
+{}
+
+/// Over values that fit, all drivers of the design hold exactly where each driven part of the numbered design has its node's value.
+pub fn holds_law()
+    ensures { HoldsLaw }
 {}
