@@ -9,14 +9,14 @@ use Rattle.bit_ops.specs.declared.operator.Binary.TheVariants as two
 use Rattle.netlist.specs.Design.{Flat}
 use Rattle.netlist.specs.Run.{all_words}
 use Rattle.netlist.specs.declared.node.Operation.{Operation}
-use Rattle.step_program.specs.Values.{Slots, slot_value, operand_value, is_narrow_width}
+use Rattle.step_program.specs.Values.{operand_value, is_narrow_width}
 use Rattle.step_program.specs.Fits.{IsWidth}
 use Rattle.step_program.specs.Draft.{Draft, IsGiven, HasStep, value_in}
 use Rattle.step_program.specs.declared.step.Operand.{Operand}
 use Rattle.step_program.specs.declared.step.Calculation.{Calculation}
 use Rattle.step_program.specs.declared.step.Calculation.TheVariants as calc
 use Rattle.net_compile.specs.Cycle.{Front, Cycle}
-use Rattle.net_compile.specs.Stands.{Begins, operation_number}
+use Rattle.net_compile.specs.Stands.{Begins}
 use Rattle.net_compile.specs.Lowered.{Mirrors, IsBesideOnes, ComparesOnes}
 use Rattle.net_compile.specs.Quick.{IsBounded}
 use Rattle.net_compile.proofs.Numbers.{same_low}

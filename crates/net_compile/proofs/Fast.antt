@@ -152,6 +152,24 @@ one_or (suc (suc p)) q l m = absurd (omega arith)
 one_or zero (suc (suc q)) l m = absurd (omega arith)
 one_or (suc zero) (suc (suc q)) l m = absurd (omega arith)
 
+one_pick_and : (p q : ℕ) → p < 2 → q < 2 → (if ops.holds p then q else p) ≡ bit_and p q
+one_pick_and zero zero l m = refl
+one_pick_and zero (suc zero) l m = refl
+one_pick_and (suc zero) zero l m = refl
+one_pick_and (suc zero) (suc zero) l m = refl
+one_pick_and (suc (suc p)) q l m = absurd (omega arith)
+one_pick_and zero (suc (suc q)) l m = absurd (omega arith)
+one_pick_and (suc zero) (suc (suc q)) l m = absurd (omega arith)
+
+one_pick_or : (p q : ℕ) → p < 2 → q < 2 → (if ops.holds p then p else q) ≡ bit_or p q
+one_pick_or zero zero l m = refl
+one_pick_or zero (suc zero) l m = refl
+one_pick_or (suc zero) zero l m = refl
+one_pick_or (suc zero) (suc zero) l m = refl
+one_pick_or (suc (suc p)) q l m = absurd (omega arith)
+one_pick_or zero (suc (suc q)) l m = absurd (omega arith)
+one_pick_or (suc zero) (suc (suc q)) l m = absurd (omega arith)
+
 -- an operand of one bit is 0 or 1
 one_bit : (slots : Slots) (k : ℕ) (x : Operand) → Has x k → IsBounded slots x → x.width ≡ 1
     → operand_value slots x < 2
@@ -160,22 +178,73 @@ one_bit slots k x e b single =
     (subst (λ n. n < 2 ^ x.width) (operand_is slots k x e b) (below slots k x e b))
 
 pub both_quick : (w : ℕ) (signed : Bool) (x y : Operand) (t : Two) → w ≤ 64 → Has x t.left → Has y t.right
-    → x.width ≡ 1 → y.width ≡ 1 → IsQuick w (calc.Binary op.LogicAnd signed x y) (kind.And t)
+    → x.width ≡ 1 → y.width ≡ 1 → IsQuick w (calc.Binary op.LogicAnd signed x y)
+    (kind.Pick (record { condition = t.left; yes = t.right; no = t.left }))
 both_quick w signed x y t l e f i j = record {
-  fits = λ n m h. (narrow_fits n m t.left x e h.0, narrow_fits n m t.right y f h.1);
+  fits = λ n m h. (
+    narrow_fits n m t.left x e h.0,
+    narrow_fits n m t.right y f h.1,
+    narrow_fits n m t.left x e h.0,
+  );
   kind = is_narrow_kind w l;
-  value = λ words slots n m h b. both slots t.left t.right x y (λ p q. bit_and p q) e f b.0 b.1
-      ∙ one_and (operand_value slots x) (operand_value slots y) (one_bit slots t.left x e b.0 i)
-      (one_bit slots t.right y f b.1 j);
+  value = λ words slots n m h b.
+      let p : operand_value slots x < 2 = one_bit slots t.left x e b.0 i in
+      let q : operand_value slots y < 2 = one_bit slots t.right y f b.1 j in
+      both slots t.left t.right x y (λ p q. if ops.holds p then q else p) e f b.0 b.1
+      ∙ one_pick_and (operand_value slots x) (operand_value slots y) p q
+      ∙ one_and (operand_value slots x) (operand_value slots y) p q;
 }
 
 pub either_quick : (w : ℕ) (signed : Bool) (x y : Operand) (t : Two) → w ≤ 64 → Has x t.left → Has y t.right
-    → x.width ≡ 1 → y.width ≡ 1 → IsQuick w (calc.Binary op.LogicOr signed x y) (kind.Or t)
+    → x.width ≡ 1 → y.width ≡ 1 → IsQuick w (calc.Binary op.LogicOr signed x y)
+    (kind.Pick (record { condition = t.left; yes = t.left; no = t.right }))
 either_quick w signed x y t l e f i j = record {
-  fits = λ n m h. (narrow_fits n m t.left x e h.0, narrow_fits n m t.right y f h.1);
+  fits = λ n m h. (
+    narrow_fits n m t.left x e h.0,
+    narrow_fits n m t.left x e h.0,
+    narrow_fits n m t.right y f h.1,
+  );
   kind = is_narrow_kind w l;
-  value = λ words slots n m h b. both slots t.left t.right x y (λ p q. bit_or p q) e f b.0 b.1
-      ∙ one_or (operand_value slots x) (operand_value slots y) (one_bit slots t.left x e b.0 i)
+  value = λ words slots n m h b.
+      let p : operand_value slots x < 2 = one_bit slots t.left x e b.0 i in
+      let q : operand_value slots y < 2 = one_bit slots t.right y f b.1 j in
+      both slots t.left t.right x y (λ p q. if ops.holds p then p else q) e f b.0 b.1
+      ∙ one_pick_or (operand_value slots x) (operand_value slots y) p q
+      ∙ one_or (operand_value slots x) (operand_value slots y) p q;
+}
+
+-- on operands of one bit `&` and `|` are choices by the left one
+pub and_one_quick : (w : ℕ) (signed : Bool) (x y : Operand) (t : Two) → w ≤ 64 → w ≡ 1 → Has x t.left → Has y t.right
+    → IsQuick w (calc.Binary op.And signed x y)
+    (kind.Pick (record { condition = t.left; yes = t.right; no = t.left }))
+and_one_quick w signed x y t l single e f = record {
+  fits = λ n m h. (
+    narrow_fits n m t.left x e h.0,
+    narrow_fits n m t.right y f h.1,
+    narrow_fits n m t.left x e h.0,
+  );
+  kind = is_narrow_kind w l;
+  value = λ words slots n m h b.
+      let i : x.width ≡ 1 = sym h.2 ∙ single in let j : y.width ≡ 1 = sym (h.3 refl) ∙ i in
+      both slots t.left t.right x y (λ p q. if ops.holds p then q else p) e f b.0 b.1
+      ∙ one_pick_and (operand_value slots x) (operand_value slots y) (one_bit slots t.left x e b.0 i)
+      (one_bit slots t.right y f b.1 j);
+}
+
+pub or_one_quick : (w : ℕ) (signed : Bool) (x y : Operand) (t : Two) → w ≤ 64 → w ≡ 1 → Has x t.left → Has y t.right
+    → IsQuick w (calc.Binary op.Or signed x y)
+    (kind.Pick (record { condition = t.left; yes = t.left; no = t.right }))
+or_one_quick w signed x y t l single e f = record {
+  fits = λ n m h. (
+    narrow_fits n m t.left x e h.0,
+    narrow_fits n m t.left x e h.0,
+    narrow_fits n m t.right y f h.1,
+  );
+  kind = is_narrow_kind w l;
+  value = λ words slots n m h b.
+      let i : x.width ≡ 1 = sym h.2 ∙ single in let j : y.width ≡ 1 = sym (h.3 refl) ∙ i in
+      both slots t.left t.right x y (λ p q. if ops.holds p then p else q) e f b.0 b.1
+      ∙ one_pick_or (operand_value slots x) (operand_value slots y) (one_bit slots t.left x e b.0 i)
       (one_bit slots t.right y f b.1 j);
 }
 

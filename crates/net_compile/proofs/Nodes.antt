@@ -24,8 +24,8 @@ use Rattle.net_compile.specs.Lowered.{IsNodeOf}
 use Rattle.net_compile.specs.Pieces.{IsPiece, source_number}
 use Rattle.net_compile.specs.declared.pieces.Piece.{Piece}
 use Rattle.net_compile.proofs.Numbers.{more_bits}
-use Rattle.net_compile.proofs.Fitting.{width_of, read_width, node_fits}
-use Rattle.net_compile.proofs.Standing.{if_some, stays, nodes_stay, stands_for, cut_stands, joined_stands}
+use Rattle.net_compile.proofs.Fitting.{width_of, node_fits}
+use Rattle.net_compile.proofs.Standing.{stays, nodes_stay, stands_for, cut_stands, joined_stands}
 
 -- ---- bits of a signal
 

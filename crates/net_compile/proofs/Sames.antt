@@ -1,18 +1,16 @@
 -- Nodes that have the value of another one in each cycle.
-use Rattle.std.proofs.Common.{◌≡◌, ℕ, zero, suc, ◌^◌, ◌<◌, ◌≤◌, ◌&&◌, List, take, get_or, refl, sym, ap, ◌∙◌, subst, arith, lit<, false}
+use Rattle.std.proofs.Common.{◌≡◌, ℕ, zero, suc, ◌^◌, ◌<◌, ◌≤◌, ◌&&◌, List, take, refl, sym, ap, ◌∙◌, subst, arith, lit<, false}
 use Rattle.std.specs.Prelude.{Option, Some, None, slice_get, slice_index, slice_index_or, IfSome}
 use Rattle.std.proofs.Math.Nat.{pow-le-pow_right}
 use Rattle.bit_ops.specs.Operators as ops
 use Rattle.bit_ops.specs.Applied as applied
 use Rattle.bit_ops.specs.declared.operator.Unary.TheVariants as one
 use Rattle.bit_ops.specs.declared.operator.Binary.TheVariants as two
-use Rattle.bit_ops.specs.declared.operator.Binary.{Binary}
 use Rattle.netlist.specs.Design.{Flat}
-use Rattle.netlist.specs.Fits.{IsWellFormed, HasNode, OperationFits}
+use Rattle.netlist.specs.Fits.{IsWellFormed, HasNode}
 use Rattle.netlist.specs.Laws.{ValuesLaw}
 use Rattle.netlist.specs.Values.{Values, width_at, node_values, operation_value}
 use Rattle.netlist.specs.declared.node.Node.{Node}
-use Rattle.netlist.specs.declared.node.Operation.{Operation}
 use Rattle.netlist.specs.declared.node.Operation.TheVariants as o
 use Rattle.step_program.specs.Values.{is_narrow_width}
 use Rattle.step_program.specs.Draft.{Draft}

@@ -46,8 +46,8 @@ fn quick_binary(
 {
     let two = two(left, right)?;
     match operator {
-        Binary::And => Some(Step::And(two)),
-        Binary::Or => Some(Step::Or(two)),
+        Binary::And => Some(quick_and(width, signed, left, right, two)),
+        Binary::Or => Some(quick_or(width, signed, left, right, two)),
         Binary::Xor => Some(Step::Xor(two)),
         Binary::Add => Some(Step::Sum(Sum::modulo(two.left, two.right, width))),
         Binary::Eq => Some(Step::Test(Test::same(two.left, two.right))),
@@ -56,6 +56,52 @@ fn quick_binary(
         Binary::LogicOr => quick_either(width, signed, left, right, two),
         _ => None,
     }
+}
+
+// Whether both of two bits are 1, as a choice: a run of steps of one kind is long where there are few kinds.
+fn both_bits(of: Two) -> Pick
+    ensures { result ≡ record { condition = of.left; yes = of.right; no = of.left } }
+{
+    Pick {
+        condition: of.left,
+        yes: of.right,
+        no: of.left,
+    }
+}
+
+// Whether one of two bits is 1, in the same way.
+fn either_bit(of: Two) -> Pick
+    ensures { result ≡ record { condition = of.left; yes = of.left; no = of.right } }
+{
+    Pick {
+        condition: of.left,
+        yes: of.left,
+        no: of.right,
+    }
+}
+
+// The fast step of `&` on two operands.
+fn quick_and(width: u32, signed: bool, left: Operand, right: Operand, two: Two) -> Step
+    requires width { (1 ≤ width) × (width ≤ 64) }
+    requires slots { (left.slot ≡ at.Narrow two.left) × (right.slot ≡ at.Narrow two.right) }
+    ensures { IsQuick width (calc.Binary op.And signed left right) result }
+{
+    if width == 1 {
+        return Step::Pick(both_bits(two));
+    }
+    Step::And(two)
+}
+
+// The fast step of `|` on two operands.
+fn quick_or(width: u32, signed: bool, left: Operand, right: Operand, two: Two) -> Step
+    requires width { (1 ≤ width) × (width ≤ 64) }
+    requires slots { (left.slot ≡ at.Narrow two.left) × (right.slot ≡ at.Narrow two.right) }
+    ensures { IsQuick width (calc.Binary op.Or signed left right) result }
+{
+    if width == 1 {
+        return Step::Pick(either_bit(two));
+    }
+    Step::Or(two)
 }
 
 // The fast step of `&&` on two operands of one bit.
@@ -70,7 +116,7 @@ fn quick_both(width: u32, signed: bool, left: Operand, right: Operand, two: Two)
     if right.width != 1 {
         return None;
     }
-    Some(Step::And(two))
+    Some(Step::Pick(both_bits(two)))
 }
 
 // The fast step of `||` on two operands of one bit.
@@ -85,7 +131,7 @@ fn quick_either(width: u32, signed: bool, left: Operand, right: Operand, two: Tw
     if right.width != 1 {
         return None;
     }
-    Some(Step::Or(two))
+    Some(Step::Pick(either_bit(two)))
 }
 
 // Whether a narrow slot holds 0, or whether it doesn't: the mask leaves no bit of it, and so 0, which is what it has

@@ -1,4 +1,4 @@
-use Rattle.std.proofs.Common.{ap, subst, sym}
+use Rattle.std.proofs.Common.{subst}
 use Rattle.step_program.specs.Draft.{narrow_count, wide_count}
 use Rattle.step_program.specs.Fits.{CalculationFits}
 use Rattle.step_program.specs.declared.step.Calculation.{Calculation}

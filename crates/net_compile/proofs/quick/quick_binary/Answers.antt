@@ -4,20 +4,18 @@ use Rattle.bit_ops.specs.declared.operator.Binary.{Binary}
 use Rattle.step_program.specs.declared.step.Calculation.TheVariants as calc
 use Rattle.step_program.specs.declared.step.Step.TheVariants as kind
 use Rattle.net_compile.specs.Quick.{IsQuick}
-use Rattle.net_compile.proofs.Fast.{and_quick, or_quick, xor_quick, sum_quick, same_quick, differ_quick}
+use Rattle.net_compile.proofs.Fast.{xor_quick, sum_quick, same_quick, differ_quick}
 use Rattle.net_compile.proofs.quick.quick_binary.Goals as goal
 
 pub returns-in-And : goal.returns-in-And
 returns-in-And c =
-    subst (λ (q : Binary). IsQuick c.args.width (calc.Binary q c.args.signed c.args.left c.args.right) (kind.And c.in_ok-two.two)) (sym c.in-And.is)
-    (and_quick c.args.width c.args.signed c.args.left c.args.right c.in_ok-two.two c.requires.1 c.in_ok-two.ensures.0
-    c.in_ok-two.ensures.1)
+    subst (λ (q : Binary). IsQuick c.args.width (calc.Binary q c.args.signed c.args.left c.args.right) c.quick_and.result) (sym c.in-And.is)
+    c.quick_and.ensures
 
 pub returns-in-Or : goal.returns-in-Or
 returns-in-Or c =
-    subst (λ (q : Binary). IsQuick c.args.width (calc.Binary q c.args.signed c.args.left c.args.right) (kind.Or c.in_ok-two.two)) (sym c.in-Or.is)
-    (or_quick c.args.width c.args.signed c.args.left c.args.right c.in_ok-two.two c.requires.1 c.in_ok-two.ensures.0
-    c.in_ok-two.ensures.1)
+    subst (λ (q : Binary). IsQuick c.args.width (calc.Binary q c.args.signed c.args.left c.args.right) c.quick_or.result) (sym c.in-Or.is)
+    c.quick_or.ensures
 
 pub returns-in-Xor : goal.returns-in-Xor
 returns-in-Xor c =

@@ -1,4 +1,3 @@
-use Rattle.std.proofs.Common.{subst, sym}
 use Rattle.net_compile.proofs.Sames.{right_is_both, left_is_both}
 use Rattle.net_compile.proofs.same.same_as_both.Goals as goal
 
