@@ -29,7 +29,7 @@ FEW_FOR_ICARUS = 20
 CORE_SEED = 3
 MULTIPLIER, INCREMENT, SEED = 6364136223846793005, 1442695040888963407, 7
 
-# What the proof of engine.rattle picks for the count of steps, and what holds of a row that is looked at.
+# What the proof of engine.rattle picks for the count of steps, what holds of a row that is looked at or made, and that what was made fits.
 PROOFS = {
     "main/Invariants.antt": """use Rattle.engine_bench.proofs.main.Given as goal
 
@@ -42,6 +42,19 @@ use Rattle.engine_bench.proofs.row_fits.Given as goal
 
 abbrev pub invariant-loop-k : goal.invariant-loop-k
 invariant-loop-k l = (n : ℕ) → n < l.k → slice_index l.row n < 2 ^ signal_width l.flat.signals (slice_index l.inputs n)
+""",
+    "fill/Invariants.antt": """use Rattle.std.proofs.Common.{◌≡◌, ℕ, ◌<◌, ◌≤◌, length, slice_index}
+use Rattle.engine_bench.proofs.fill.Given as goal
+
+abbrev pub invariant-loop-k : goal.invariant-loop-k
+invariant-loop-k l =
+    (length l.row ≡ length l.fn.row) × ((n : ℕ) → n < l.k → slice_index l.row n ≤ slice_index l.masks n)
+""",
+    "run/Invariants.antt": """use Rattle.std.proofs.Common.{◌≡◌, length}
+use Rattle.engine_bench.proofs.run.Given as goal
+
+abbrev pub invariant-loop-cycle : goal.invariant-loop-cycle
+invariant-loop-cycle g l = (length l.row ≡ length l.masks) × (l.sim.flat ≡ l.fn.sim.flat)
 """,
 }
 
