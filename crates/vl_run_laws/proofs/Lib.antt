@@ -4,3 +4,4 @@ mod Parts
 mod OperatorsFit
 mod NodesFit
 mod DrivenBits
+mod Given

@@ -9,6 +9,7 @@
 
 ghost use Rattle.vl_process.specs.Laws.{FiresLaw};
 ghost use Rattle.vl_run_laws.specs.DrivenBits.{DrivenBitsLaw, HoldsLaw};
+ghost use Rattle.vl_run_laws.specs.Given.{GivenLaw};
 ghost use Rattle.vl_run_laws.specs.NodeValues.{NodesFitLaw};
 ghost use Rattle.vl_run_laws.specs.Parts.{PartsLaw};
 
@@ -36,4 +37,9 @@ pub fn driven_bits_law()
 /// Over values that fit, all drivers of the design hold exactly where each driven part of the numbered design has its node's value.
 pub fn holds_law()
     ensures { HoldsLaw }
+{}
+
+/// What the state and the row say of a signal where nothing drives it is the same in the numbered design and in the design.
+pub fn given_law()
+    ensures { GivenLaw }
 {}

@@ -1,4 +1,4 @@
-mod Paths
+pub mod Paths
 pub mod Lists
-mod Numbers
+pub mod Numbers
 mod Writes

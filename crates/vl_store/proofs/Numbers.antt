@@ -19,7 +19,7 @@ is_false false h = refl
 
 -- ---- by path
 
-number_there : (xs : List Signal) (ns : List ℕ) (t : ℕ) (x : Signal) → length ns ≡ length xs → slice_get xs t ≡ Some x
+pub number_there : (xs : List Signal) (ns : List ℕ) (t : ℕ) (x : Signal) → length ns ≡ length xs → slice_get xs t ≡ Some x
     → ((i : ℕ) (y : Signal) → i < t → slice_get xs i ≡ Some y → same_path y.path x.path ≡ true → ⊥)
     → number_at xs ns x.path ≡ Some (slice_index ns t)
 number_there [] ns t x count at before = absurd cc
@@ -33,7 +33,7 @@ number_there (y ∷ ys) (n ∷ ns) (suc t) x count at before =
     (is_false (same_path y.path x.path) (before 0 y (omega arith) refl))
     ∙ number_there ys ns t x (omega (arith, count)) at (λ i z l there e. before (suc i) z (omega (arith, l)) there e)
 
-none_there : (xs : List Signal) (ns : List ℕ) (p : Path)
+pub none_there : (xs : List Signal) (ns : List ℕ) (p : Path)
     → ((i : ℕ) (y : Signal) → slice_get xs i ≡ Some y → same_path y.path p ≡ true → ⊥) → number_at xs ns p ≡ None
 none_there [] ns p away = refl
 none_there (y ∷ ys) [] p away = refl
@@ -57,7 +57,7 @@ words_there (y ∷ ys) (n ∷ ns) (suc t) x count at before =
 
 -- ---- counts
 
-count_fit : (ws ns : List ℕ) → AllFit ws ns → length ns ≡ length ws
+pub count_fit : (ws ns : List ℕ) → AllFit ws ns → length ns ≡ length ws
 count_fit [] [] f = refl
 count_fit [] (n ∷ ns) f = absurd f
 count_fit (w ∷ ws) [] f = absurd f
