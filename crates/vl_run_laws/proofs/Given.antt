@@ -37,6 +37,12 @@ by_number_at d (y ∷ xs) (n ∷ ns) zero x count at =
     let same : y ≡ x = cc in ap (λ z. Some (signal_by_number d z n)) same
 by_number_at d (y ∷ xs) (n ∷ ns) (suc t) x count at = by_number_at d xs ns t x (omega (arith, count)) at
 
+pub by_number_count : (d : Design) (xs : List Signal) (ns : List ℕ) → length ns ≡ length xs
+    → length (signals_by_number d xs ns) ≡ length xs
+by_number_count d [] ns count = refl
+by_number_count d (x ∷ xs) [] count = absurd (omega (arith, count))
+by_number_count d (x ∷ xs) (n ∷ ns) count = ap suc (by_number_count d xs ns (omega (arith, count)))
+
 pub signal_is : (f : Flat) (d : Design) (t : ℕ) (x : Signal) → StandsFor f d → slice_get d.signals t ≡ Some x
     → slice_get f.signals t ≡ Some (signal_by_number d x (slice_index (initial d).signals t))
 signal_is f d t x stands at = ap (λ ss. slice_get ss t) stands.signals
@@ -44,7 +50,7 @@ signal_is f d t x stands at = ap (λ ss. slice_get ss t) stands.signals
 
 -- ---- register parts leave other signals alone, and their values don't depend on what other signals have
 
-put_other : (ss : List flat_signal.Signal) (r : Range) (n t : ℕ) (v : List ℕ) → (r.signal ≡ t → ⊥)
+pub put_other : (ss : List flat_signal.Signal) (r : Range) (n t : ℕ) (v : List ℕ) → (r.signal ≡ t → ⊥)
     → slice_index (put ss r n v) t ≡ slice_index v t
 put_other ss r n t v away = get_or-set_other v r.signal t _ 0 (λ e. away (sym e))
 
@@ -94,11 +100,11 @@ no_register f t y well at outer p h e =
 
 -- ---- a signal is a data input, or none has its path
 
-record IsInputOf (d : Design) (x : Signal) (k : ℕ) : Type 0 where
-  at : slice_get d.inputs k ≡ Some x
-  first : (i : ℕ) (y : Signal) → i < k → slice_get d.inputs i ≡ Some y → same_path y.path x.path ≡ true → ⊥
+pub record IsInputOf (d : Design) (x : Signal) (k : ℕ) : Type 0 where
+  pub at : slice_get d.inputs k ≡ Some x
+  pub first : (i : ℕ) (y : Signal) → i < k → slice_get d.inputs i ≡ Some y → same_path y.path x.path ≡ true → ⊥
 
-abbrev IsNoInput : List Signal → Path → Type 0
+abbrev pub IsNoInput : List Signal → Path → Type 0
 IsNoInput xs p = (i : ℕ) (y : Signal) → slice_get xs i ≡ Some y → same_path y.path p ≡ true → ⊥
 
 -- the first of a list with a path
@@ -142,11 +148,11 @@ find : (xs : List Signal) (p : Path) → Found xs p ⊎ IsNoInput xs p
 find [] p = inr (λ i y at e. absurd cc)
 find (y ∷ xs) p = found_more y xs p (same_path y.path p) refl (find xs p)
 
-record InputPlace (d : Design) (x : Signal) : Type 0 where
-  place : ℕ
-  is : IsInputOf d x place
+pub record InputPlace (d : Design) (x : Signal) : Type 0 where
+  pub place : ℕ
+  pub is : IsInputOf d x place
 
-input_or_none : (d : Design) (t : ℕ) (x : Signal) → PathsAreDistinct d → InputsAreSignals d → slice_get d.signals t ≡ Some x
+pub input_or_none : (d : Design) (t : ℕ) (x : Signal) → PathsAreDistinct d → InputsAreSignals d → slice_get d.signals t ≡ Some x
     → InputPlace d x ⊎ IsNoInput d.inputs x.path
 input_or_none d t x apart inputs at = elim (find d.inputs x.path) [
   | inr none ↦ inr none
@@ -182,7 +188,7 @@ signal_first n (y ∷ xs) (suc t) x at before =
     ∙ signal_first (suc n) xs t x at (λ i z l there e. before (suc i) z (omega (arith, l)) there e)
     ∙ ap Some more
 
-no_signal : (n : ℕ) (xs : List Signal) (p : Path) → IsNoInput xs p → signal_from n xs p ≡ None
+pub no_signal : (n : ℕ) (xs : List Signal) (p : Path) → IsNoInput xs p → signal_from n xs p ≡ None
 no_signal n [] p none = refl
 no_signal n (y ∷ xs) p none = ap (λ b. if b then Some n else signal_from (suc n) xs p) (is_false (same_path y.path p)
     (none 0 y refl)) ∙ no_signal (suc n) xs p (λ i z at e. none (suc i) z at e)
@@ -216,7 +222,7 @@ input_number f d t k x stands apart inputs at there =
     e ∙ ap (λ o. Some (unwrap_or o 0)) (sym e)) there
     ∙ ap (λ o. Some (unwrap_or o 0)) (number_of d t x apart at)
 
-input_role_is : (f : Flat) (d : Design) (t k : ℕ) (x : Signal) → IsWellFormed f → StandsFor f d → PathsAreDistinct d
+pub input_role_is : (f : Flat) (d : Design) (t k : ℕ) (x : Signal) → IsWellFormed f → StandsFor f d → PathsAreDistinct d
     → InputsAreSignals d → slice_get d.signals t ≡ Some x → slice_get d.inputs k ≡ Some x → role_of d x.path ≡ role.Input k
 input_role_is f d t k x well stands apart inputs at there =
     let number = input_number f d t k x stands apart inputs at there in
@@ -244,7 +250,7 @@ kept_value f t y at =
     ∙ ap (λ (z : flat_signal.Signal). z.kept) (get_or_from_slice_get f.signals t y y at)
 
 -- a role that isn't inner: no register part, so the role's own value
-outer_given : (f : Flat) (s : State) (row : List ℕ) (t : ℕ) (y : flat_signal.Signal) → IsWellFormed f
+pub outer_given : (f : Flat) (s : State) (row : List ℕ) (t : ℕ) (y : flat_signal.Signal) → IsWellFormed f
     → slice_get f.signals t ≡ Some y → (y.role ≡ role.Inner → ⊥) → slice_index (given f s row) t ≡ role_value row y.kept y.role
 outer_given f s row t y well at outer =
     registers_other f.signals f.registers s.registers (map (λ (z : flat_signal.Signal). role_value row z.kept z.role) f.signals) t

@@ -5,3 +5,4 @@ mod OperatorsFit
 mod NodesFit
 mod DrivenBits
 mod Given
+mod Fitting

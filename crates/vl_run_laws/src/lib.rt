@@ -9,6 +9,7 @@
 
 ghost use Rattle.vl_process.specs.Laws.{FiresLaw};
 ghost use Rattle.vl_run_laws.specs.DrivenBits.{DrivenBitsLaw, HoldsLaw};
+ghost use Rattle.vl_run_laws.specs.Fitting.{FittingLaw};
 ghost use Rattle.vl_run_laws.specs.Given.{GivenLaw};
 ghost use Rattle.vl_run_laws.specs.NodeValues.{NodesFitLaw};
 ghost use Rattle.vl_run_laws.specs.Parts.{PartsLaw};
@@ -42,4 +43,9 @@ pub fn holds_law()
 /// What the state and the row say of a signal where nothing drives it is the same in the numbered design and in the design.
 pub fn given_law()
     ensures { GivenLaw }
+{}
+
+/// What settles with a numbered design, over a state and a row that fit, has values that fit the design.
+pub fn fitting_law()
+    ensures { FittingLaw }
 {}
