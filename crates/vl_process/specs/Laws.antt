@@ -20,10 +20,17 @@ use Rattle.vl_process.specs.Shown.{scope_of, shown}
 use Rattle.vl_process.specs.Parts.{ReadsPart}
 use Rattle.vl_process.specs.StandsFor.{StandsFor, StateFits, whole_state, all_fired_by}
 
+-- the design of some source, so that no two of its objects have one path, and its inputs are signals
+pub record IsElaborated (d : Design) : Type 0 where
+  pub limits : Limits
+  pub source : Source
+  pub top : Option Text
+  pub is : elaborated limits source top ≡ Ok d
+
 -- a law: the same valuations settle
 abbrev pub SettlesLaw : Type 0
-SettlesLaw = (f : Flat) (d : Design) (s : State) (row : List ℕ) (v : Values) → IsWellFormed f → StandsFor f d
-    → StateFits f s → RowFits d row → FlatSettles f s row v ↔ Settles d (whole_state f s) row v
+SettlesLaw = (f : Flat) (d : Design) (s : State) (row : List ℕ) (v : Values) → IsElaborated d → IsWellFormed f
+    → StandsFor f d → StateFits f s → RowFits d row → FlatSettles f s row v ↔ Settles d (whole_state f s) row v
 
 -- a law: the same assertions fire, in the same order
 abbrev pub FiresLaw : Type 0
@@ -48,7 +55,7 @@ pub record SameRun (f : Flat) (d : Design) (rows : List (List ℕ)) (states : �
 -- A law: over rows that fit, a run of a numbered design that stands for a design and has an order is the design's.
 abbrev pub RunsAreSame : Type 0
 RunsAreSame = (f : Flat) (d : Design) (order : List ℕ) (rows : List (List ℕ)) (states : ℕ → State) (values : ℕ → Values)
-    → IsWellFormed f → StandsFor f d → IsOrder f order → RowsFit d rows → IsFlatRun f rows states values
+    → IsElaborated d → IsWellFormed f → StandsFor f d → IsOrder f order → RowsFit d rows → IsFlatRun f rows states values
     → SameRun f d rows states values
 
 -- A law: a design has one run at most over given rows.
@@ -63,5 +70,4 @@ pub record ShowsSame (f : Flat) (d : Design) : Type 0 where
 
 -- A law: so it is where a numbered design stands for the design that a source is.
 abbrev pub ShownIsSame : Type 0
-ShownIsSame = (q : Limits) (src : Source) (top : Option Text) (f : Flat) (d : Design) → elaborated q src top ≡ Ok d
-    → StandsFor f d → ShowsSame f d
+ShownIsSame = (f : Flat) (d : Design) → IsElaborated d → StandsFor f d → ShowsSame f d

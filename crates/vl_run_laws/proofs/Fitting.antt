@@ -1,17 +1,15 @@
 -- Values that settle are within the widths of signals and memories.
-use Rattle.std.proofs.Common.{◌≡◌, ℕ, zero, suc, ◌+◌, ◌-◌, ◌^◌, ◌<◌, ◌≤◌, ◌⊎◌, inl, inr, Bool, true, false, if◌then◌else◌, List, [], ◌∷◌, length, map, drop, max, min, refl, sym, ap, subst, ◌∙◌, arith}
-use Rattle.std.specs.Prelude.{Option, Some, None, slice_get, slice_index, slice_index_or, is_some}
+use Rattle.std.proofs.Common.{◌≡◌, ℕ, zero, suc, ◌+◌, ◌-◌, ◌^◌, ◌<◌, ◌≤◌, inl, inr, Bool, true, false, if◌then◌else◌, List, [], ◌∷◌, length, map, drop, max, min, refl, sym, ap, subst, ◌∙◌, arith}
+use Rattle.std.specs.Prelude.{Some, None, slice_get, slice_index, slice_index_or, is_some}
 use Rattle.std.specs.List.{All}
-use Rattle.std.proofs.lemmas.Bool.{cases_lt}
 use Rattle.std.proofs.lemmas.Nat.{pow_pos}
 use Rattle.std.proofs.lemmas.List.{length-map}
 use Rattle.std.proofs.lemmas.Option.{slice_get_within, get_or_from_slice_get}
 use Rattle.netlist.specs.Design.{Flat}
 use Rattle.netlist.specs.Plain.{PlainMemory}
-use Rattle.netlist.specs.Fits as flat_fits
-use Rattle.netlist.specs.Fits.{IsWellFormed, IsInner, MemoryFits, PlaceFits}
+use Rattle.netlist.specs.Fits.{IsWellFormed, IsInner, MemoryFits}
 use Rattle.netlist.specs.Values.{Values, node_values}
-use Rattle.netlist.specs.Run.{State, FlatSettles, put, put_driven, given, all_words, written_words, role_value}
+use Rattle.netlist.specs.Run.{State, put, put_driven, given, all_words, written_words, role_value}
 use Rattle.netlist.specs.declared.design.Signal as flat_signal
 use Rattle.netlist.specs.declared.design.DrivenPart.{DrivenPart}
 use Rattle.netlist.specs.declared.design.Role.{Role}
@@ -23,8 +21,8 @@ use Rattle.vl_design.specs.LoopVariables.{is_path_in}
 use Rattle.vl_design.specs.Design.{Design, Signal, Memory}
 use Rattle.vl_process.specs.Clocks.{clock_names}
 use Rattle.vl_process.specs.Run.{initial}
-use Rattle.vl_process.specs.Settling.{RowFits, AllFit, MemoriesFit, WordsFit, signal_width, word_count}
-use Rattle.vl_process.specs.StandsFor.{StandsFor, StateFits, WrittenFit, AreMemories, signal_by_number, signals_by_number, role_of, signal_from, input_role}
+use Rattle.vl_process.specs.Settling.{RowFits, AllFit, MemoriesFit, signal_width, word_count}
+use Rattle.vl_process.specs.StandsFor.{StandsFor, WrittenFit, AreMemories, signal_by_number, role_of, signal_from, input_role}
 use Rattle.vl_store.specs.Stores.{PathsAreDistinct}
 use Rattle.vl_run_laws.specs.Given.{InputsAreSignals}
 use Rattle.vl_run_laws.specs.Fitting.{FittingLaw}

@@ -5,6 +5,7 @@
 //! Promise: `fires_law`: over values that fit, the same assertions fire, in the same order, with the same messages. `holds_law`: all drivers
 //! hold exactly where each driven part has its node's value; `driven_bits_law`: they drive the bits of those parts. `parts_law`: the parts
 //! of a design are the maximal runs of bits of one driver, or of one block, in order. `nodes_fit_law`: values of nodes fit.
+//! `given_law`: the state and the row say the same of a signal in both. `fitting_law`: what settles fits the design.
 #![tactic(auto)]
 
 ghost use Rattle.vl_process.specs.Laws.{FiresLaw};
