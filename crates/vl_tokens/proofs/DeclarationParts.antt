@@ -5,7 +5,7 @@ use Rattle.vl_tree.specs.declared.item.FunctionPort.{FunctionPort}
 use Rattle.vl_tree.specs.Syntax as t
 use Rattle.vl_tree.specs.SyntaxView as view
 use Rattle.vl_tree.specs.Syntax.{Place, Name, Range}
-use Rattle.vl_tree.specs.Depth.{enclosed, one_if, depths_of, comma_depths, more_depths, each_depth, expr_depths, stmt_depths, binds_depths, instance_depths, named_bind_depths, event_depths, sensed_depths, function_port_depths, function_ports_depths, function_type_depths, function_declaration_depths, function_depths}
+use Rattle.vl_tree.specs.Depth.{enclosed, one_if, depths_of, comma_depths, more_depths, each_depth, expr_depths, stmt_depths, binds_depths, instance_depths, named_bind_depths, parameter_binds_depths, event_depths, sensed_depths, function_port_depths, function_ports_depths, function_type_depths, function_declaration_depths, function_depths}
 use Rattle.vl_design.proofs.TokenLaws.{lengthened, expr_alike, binds_alike, sensed_alike, function_port_alike, function_declaration_alike, stmt_alike}
 use Rattle.vl_tokens.specs.Counted.{in_list}
 
@@ -45,6 +45,10 @@ bind_tokens b =
 pub instance_tokens : (i : t.Instance) → length (instance_depths 0 i) ≡ 3 + length (depths_of binds_depths 0 i.binds)
 instance_tokens i =
     let h = within 0 (depths_of binds_depths 1 i.binds) in let a = of_option binds_depths binds_alike 1 0 i.binds in omega (arith, h, a)
+
+pub given_tokens : (b : Option t.Binds) → length (parameter_binds_depths 0 b) ≡ 3 + length (depths_of binds_depths 0 b)
+given_tokens b =
+    let h = within 0 (depths_of binds_depths 1 b) in let a = of_option binds_depths binds_alike 1 0 b in omega (arith, h, a)
 
 pub sensed_tokens : (xs : List t.Sensed) → length (event_depths 0 (t.sensed xs)) ≡ 3 + in_list sensed_depths false xs
 sensed_tokens xs =

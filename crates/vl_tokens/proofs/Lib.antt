@@ -2,3 +2,4 @@ pub mod Counting
 pub mod Parts
 pub mod StatementParts
 pub mod DeclarationParts
+pub mod ItemParts
