@@ -184,7 +184,7 @@ owned_at f v r (suc j) (x ∷ qs) (y ∷ ps) q p a b e h = owned_at f v r j qs p
 all_each : {X : Type 0} (P : X → Type 0) (xs : List X) → ((k : ℕ) (x : X) → slice_get xs k ≡ Some x → P x) → All P xs
 all_each P xs each = λ k d l. each k (get_or xs k d) (slice_get-get_or xs k d l)
 
-all_at : {X : Type 0} (P : X → Type 0) (xs : List X) (k : ℕ) (x : X) → All P xs → slice_get xs k ≡ Some x → P x
+pub all_at : {X : Type 0} (P : X → Type 0) (xs : List X) (k : ℕ) (x : X) → All P xs → slice_get xs k ≡ Some x → P x
 all_at P xs k x all at = subst P (get_or_from_slice_get xs k x x at) (all k x (slice_get_within xs k x at))
 
 pub all_hold : HoldsLaw

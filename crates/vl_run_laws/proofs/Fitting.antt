@@ -31,9 +31,9 @@ use Rattle.vl_run_laws.proofs.Given.{signal_is, put_other, outer_given, input_or
 -- ---- memories
 
 -- as many words as at the start, each within the width
-record HasWords (m : PlainMemory) (ns : List ℕ) : Type 0 where
-  count : length ns ≡ length m.words
-  each : All (λ n. n < 2 ^ m.width) ns
+pub record HasWords (m : PlainMemory) (ns : List ℕ) : Type 0 where
+  pub count : length ns ≡ length m.words
+  pub each : All (λ n. n < 2 ^ m.width) ns
 
 -- the state's words where the memory is written, else its own
 words_of : (blocks : ℕ) (m : PlainMemory) (ns : List ℕ) (b : Bool) → is_some m.writer ≡ b → MemoryFits blocks m
@@ -42,7 +42,7 @@ words_of blocks m ns true e fits count all =
     record { count = count ∙ ap (λ c. length (if c then m.words else [])) e; each = all }
 words_of blocks m ns false e fits count all = record { count = refl; each = fits.2 }
 
-memory_words : (blocks : ℕ) (ms : List PlainMemory) (st : List (List ℕ)) (t : ℕ) (m : PlainMemory)
+pub memory_words : (blocks : ℕ) (ms : List PlainMemory) (st : List (List ℕ)) (t : ℕ) (m : PlainMemory)
     → ((i : ℕ) (x : PlainMemory) → slice_get ms i ≡ Some x → MemoryFits blocks x) → WrittenFit ms st → slice_get ms t ≡ Some m
     → HasWords m (slice_index_or (all_words ms st) t [])
 memory_words blocks [] st t m fits w at = absurd cc
@@ -90,7 +90,7 @@ all_fit [] (n ∷ ns) count each = absurd (omega (arith, count))
 all_fit (x ∷ xs) [] count each = absurd (omega (arith, count))
 all_fit (x ∷ xs) (n ∷ ns) count each = (each 0 x refl, all_fit xs ns (omega (arith, count)) (λ t y at. each (suc t) y at))
 
-fit_at : (xs : List Signal) (ns : List ℕ) (k : ℕ) (x : Signal) → AllFit (map signal_width xs) ns → slice_get xs k ≡ Some x
+pub fit_at : (xs : List Signal) (ns : List ℕ) (k : ℕ) (x : Signal) → AllFit (map signal_width xs) ns → slice_get xs k ≡ Some x
     → slice_index ns k < 2 ^ signal_width x
 fit_at [] ns k x fits at = absurd cc
 fit_at (y ∷ xs) [] k x fits at = absurd fits
@@ -126,7 +126,7 @@ no_role d x k false e none own =
     absurd cc
 
 -- the width of a signal whose role is this one
-bound : (f : Flat) (d : Design) (s : State) (row : List ℕ) (v : Values) (t : ℕ) (x : Signal) (r : Role) → IsWellFormed f
+pub bound : (f : Flat) (d : Design) (s : State) (row : List ℕ) (v : Values) (t : ℕ) (x : Signal) (r : Role) → IsWellFormed f
     → StandsFor f d → PathsAreDistinct d → InputsAreSignals d → RowFits d row → slice_get d.signals t ≡ Some x
     → role_of d x.path ≡ r
     → slice_index (put_driven f.signals f.driven (node_values f v) (given f s row)) t < 2 ^ signal_width x

@@ -6,3 +6,5 @@ mod NodesFit
 mod DrivenBits
 mod Given
 mod Fitting
+mod Settling
+mod Running

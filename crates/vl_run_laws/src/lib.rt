@@ -6,6 +6,8 @@
 //! hold exactly where each driven part has its node's value; `driven_bits_law`: they drive the bits of those parts. `parts_law`: the parts
 //! of a design are the maximal runs of bits of one driver, or of one block, in order. `nodes_fit_law`: values of nodes fit.
 //! `given_law`: the state and the row say the same of a signal in both. `fitting_law`: what settles fits the design.
+//! `settling_law`: the same values settle with both.
+//! `running_law`: the run of a numbered design is the design's.
 #![tactic(auto)]
 
 ghost use Rattle.vl_process.specs.Laws.{FiresLaw};
@@ -14,6 +16,8 @@ ghost use Rattle.vl_run_laws.specs.Fitting.{FittingLaw};
 ghost use Rattle.vl_run_laws.specs.Given.{GivenLaw};
 ghost use Rattle.vl_run_laws.specs.NodeValues.{NodesFitLaw};
 ghost use Rattle.vl_run_laws.specs.Parts.{PartsLaw};
+ghost use Rattle.vl_run_laws.specs.Running.{RunningLaw};
+ghost use Rattle.vl_run_laws.specs.Settling.{SettlingLaw};
 
 /// Over values that fit, the same assertions fire in the numbered design and in the design, in the same order.
 pub fn fires_law()
@@ -49,4 +53,14 @@ pub fn given_law()
 /// What settles with a numbered design, over a state and a row that fit, has values that fit the design.
 pub fn fitting_law()
     ensures { FittingLaw }
+{}
+
+/// The same values settle with the numbered design and with the design, over a state and a row that fit.
+pub fn settling_law()
+    ensures { SettlingLaw }
+{}
+
+/// Over rows that fit, a run of a numbered design that has an order is the design's: its states and values, and what fires in each cycle.
+pub fn running_law()
+    ensures { RunningLaw }
 {}
