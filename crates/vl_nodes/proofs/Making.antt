@@ -1,5 +1,5 @@
 -- Nodes that are added at the end, and what they are worth and read in each design that goes on from there.
-use Rattle.std.proofs.Common.{◌≡◌, ℕ, zero, suc, ◌≤◌, ◌||◌, Bool, true, false, List, [], ◌∷◌, ◌++◌, length, take, refl, sym, ap, ◌∙◌, subst, arith, append-nil, append_assoc, inl, inr}
+use Rattle.std.proofs.Common.{◌≡◌, ℕ, zero, suc, ◌≤◌, ◌<◌, ◌^◌, ◌||◌, Bool, true, false, List, [], ◌∷◌, ◌++◌, length, take, refl, sym, ap, ◌∙◌, subst, arith, append-nil, append_assoc, inl, inr}
 use Rattle.std.specs.Prelude.{Result, Ok, Err, IfOk, OnOk, Some, slice_get, slice_index_or, IsSomeAnd}
 use Rattle.std.specs.Option.{option_map, unwrap_or}
 use Rattle.std.proofs.Math.Seq.{get_or-append_seam, take-append_seam}
@@ -47,6 +47,7 @@ is_kept g from to m x h i = record {
   stands = subst (λ ns. slice_get ns m.node ≡ Some i.here) (sym h.whole) (kept_at from h.more m.node i.here i.stands);
   wide = i.wide;
   is_width = i.is_width;
+  fits = i.fits;
   value = λ f v s fit. i.value f v (goes_on g from to f h s) fit;
   reads = λ f q s some. i.reads f q (goes_on g from to f h s) some;
 }
@@ -59,6 +60,7 @@ is_as g nodes m x y i same reads = record {
   stands = i.stands;
   wide = i.wide;
   is_width = i.is_width;
+  fits = λ v fit. subst (λ n. n < 2 ^ m.width) (same v fit) (i.fits v fit);
   value = λ f v s fit. i.value f v s fit ∙ same v fit;
   reads = λ f q s some. i.reads f q s some ∙ reads q some;
 }
@@ -124,15 +126,20 @@ abbrev pub IsRead : Ground → List Node → Node → Sense → Type 0
 IsRead g nodes x s = (f : Flat) (q : Range) → GoesOn g nodes f → 1 ≤ q.width
     → node_reads q (nodes_read q [] f.nodes) x ≡ s.reads q
 
+-- over all values that fit a sense's number is within a width
+abbrev pub Bounded : Ground → ℕ → Sense → Type 0
+Bounded g w s = (v : Values) → ValuesFit g v → s.value v < 2 ^ w
+
 last_is : (g : Ground) (nodes new : List Node) (x : Node) (s : Sense) → new ≡ nodes ++ x ∷ [] → IsWidth x.width
-    → IsWorth g nodes x s → IsRead g nodes x s → Is g new (record { node = length nodes; width = x.width }) s
-last_is g nodes new x s e wide worth read =
+    → Bounded g x.width s → IsWorth g nodes x s → IsRead g nodes x s → Is g new (record { node = length nodes; width = x.width }) s
+last_is g nodes new x s e wide small worth read =
     let at : slice_get new (length nodes) ≡ Some x = ap (λ ns. slice_get ns (length nodes)) e ∙ last_at nodes x in
     record {
       here = x;
       stands = at;
       wide = refl;
       is_width = wide;
+      fits = small;
       value = λ f v k fit. (values_law.are f v k.fits).each (length nodes) x (k.begins (length nodes) x at)
           ∙ worth f v (begins_less g nodes (x ∷ []) f (subst (λ ns. GoesOn g ns f) e k)) fit;
       reads = λ f q k some. (reads_law f q k.fits).each (length nodes) x (k.begins (length nodes) x at)
@@ -141,15 +148,15 @@ last_is g nodes new x s e wide worth read =
 
 pub added : {E : Type 0} (g : Ground) (nodes new : List Node) (x : Node) (s : Sense) (r : Result Made E)
     → IfOk r (λ m. m ≡ record { node = length nodes; width = x.width }) → OnOk r (new ≡ nodes ++ x ∷ []) → IsWidth x.width
-    → Fits g nodes x → IsWorth g nodes x s → IsRead g nodes x s → IfOk r (MakesAt g nodes new x.width s)
-added g nodes new x s (Ok m) number e wide fits worth read = (
+    → Fits g nodes x → Bounded g x.width s → IsWorth g nodes x s → IsRead g nodes x s → IfOk r (MakesAt g nodes new x.width s)
+added g nodes new x s (Ok m) number e wide fits small worth read = (
   ap (λ (k : Made). k.width) number,
   record {
     grown = grows_one g nodes new x e fits;
-    is = subst (λ k. Is g new k s) (sym number) (last_is g nodes new x s e wide worth read);
+    is = subst (λ k. Is g new k s) (sym number) (last_is g nodes new x s e wide small worth read);
   },
 )
-added g nodes new x s (Err z) number e wide fits worth read = tt
+added g nodes new x s (Err z) number e wide fits small worth read = tt
 
 -- ---- what is read
 

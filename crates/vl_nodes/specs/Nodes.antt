@@ -48,13 +48,14 @@ HasMemory g k width = IsSomeAnd (slice_get g.memories k) (λ m. m.width ≡ widt
 
 -- ---- nodes
 
--- a node is there, of its width, and in each such design, over all values that fit, it is worth what the sense says, and
--- reads bits of exactly the ranges, of a bit at least, that the sense reads
+-- a node is there, of its width; over all values that fit, the sense's number is within that width; and in each such design the
+-- node is worth what the sense says, and reads bits of exactly the ranges, of a bit at least, that the sense reads
 pub record Is (g : Ground) (nodes : List Node) (m : Made) (x : Sense) : Type 0 where
   pub here : Node
   pub stands : slice_get nodes m.node ≡ Some here
   pub wide : here.width ≡ m.width
   pub is_width : IsWidth m.width
+  pub fits : (v : Values) → ValuesFit g v → x.value v < 2 ^ m.width
   pub value : (f : Flat) (v : Values) → GoesOn g nodes f → ValuesFit g v
       → slice_index (node_values f v) m.node ≡ x.value v
   pub reads : (f : Flat) (q : Range) → GoesOn g nodes f → 1 ≤ q.width

@@ -166,19 +166,25 @@ same_away turned y z n r b v (inr far) few small most fits =
 whole_is : (w v : ℕ) → v < 2 ^ w → select (pos 0) w v ≡ v
 whole_is w v fits = ap (λ i. i % 2 ^ w) (div-one v) ∙ mod-eq_of_lt fits
 
-pub bits_are : (sh : Shape) (d : Way) (n : ℕ) (s : Bool) (w k v u : ℕ) → 1 ≤ n → n ≤ 128 → sh.right < 2 ^ 32 → k < 2 ^ w
+pub part_are : (sh : Shape) (d : Way) (n : ℕ) (s : Bool) (w k v u : ℕ) → 1 ≤ n → n ≤ 128 → sh.right < 2 ^ 32 → k < 2 ^ w
     → u ≤ 128 → v < 2 ^ u
-    → select (integer true 70 (steps.place sh d n s w k)) n (select (pos 0) u v) ≡ select (place_from sh d (integer s w k) n) n v
-bits_are sh d n s w k v u some most few fits wide below =
+    → select (integer true 70 (steps.place sh d n s w k)) n v ≡ select (place_from sh d (integer s w k) n) n v
+part_are sh d n s w k v u some most few fits wide below =
     let up : Bool = nat_lt sh.left sh.right in
     let b : ℕ = steps.behind up d n in
     let small : b < 128 = behind_few up d n most in
     let y : ℤ = integer true 70 (steps.near s w k) in
     let power : 2 ^ u ≤ 2 ^ 128 = wider u 128 wide in
-    ap (λ i. select (integer true 70 (steps.place sh d n s w k)) n i) (whole_is u v below)
-    ∙ ap (λ i. select i n v) (place_is up (steps.near s w k) sh.right b y refl (near_small s w k fits) few small)
+    ap (λ i. select i n v) (place_is up (steps.near s w k) sh.right b y refl (near_small s w k fits) few small)
     ∙ same_away up y (integer s w k) n sh.right b v (near_is s w k fits) few small most (omega (arith, below, power))
     ∙ ap (λ i. select i n v) (sym (place_away sh d (integer s w k) n some))
+
+pub bits_are : (sh : Shape) (d : Way) (n : ℕ) (s : Bool) (w k v u : ℕ) → 1 ≤ n → n ≤ 128 → sh.right < 2 ^ 32 → k < 2 ^ w
+    → u ≤ 128 → v < 2 ^ u
+    → select (integer true 70 (steps.place sh d n s w k)) n (select (pos 0) u v) ≡ select (place_from sh d (integer s w k) n) n v
+bits_are sh d n s w k v u some most few fits wide below =
+    ap (λ i. select (integer true 70 (steps.place sh d n s w k)) n i) (whole_is u v below)
+    ∙ part_are sh d n s w k v u some most few fits wide below
 
 -- ---- what is read
 

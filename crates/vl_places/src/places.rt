@@ -61,8 +61,24 @@ pub fn bits_by(
     nodes.select(whole, place, true, part.count)
 }
 
-// The width of a vector.
-fn width_of(shape: Shape) -> u32
+/// Bits of a node of this shape, such as a memory's word, from an index that varies; 0 at places outside.
+pub fn node_bits_by(
+    nodes: &mut Nodes,
+    of: Made,
+    shape: Shape,
+    part: Varying,
+) -> Result<Made, NoMemory>
+    requires some { IsWidth part.count }
+    requires index { part.index.width ≤ MAX_WIDTH }
+    ensures width { IfOk result (λ m. m.width ≡ part.count) }
+    ensures made { places.IsNodeBitsBy nodes.old nodes.new of (plain_shape shape) part result }
+{
+    let place = place_by(nodes, shape, part)?;
+    nodes.select(of, place, true, part.count)
+}
+
+/// The width of a vector, in bits.
+pub fn width_of(shape: Shape) -> u32
     ensures { result ≡ width_of (plain_shape shape) }
 {
     shape.left.abs_diff(shape.right) + 1

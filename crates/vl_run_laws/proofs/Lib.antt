@@ -1,7 +1,6 @@
 mod Fires
 mod Runs
 mod Parts
-mod OperatorsFit
 mod NodesFit
 mod DrivenBits
 mod Given

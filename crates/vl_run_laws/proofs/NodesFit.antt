@@ -15,7 +15,7 @@ use Rattle.netlist.specs.declared.node.Operation.{Operation}
 use Rattle.netlist.specs.declared.node.Operation.TheVariants as o
 use Rattle.netlist.proofs.ValuesLaw.{values_law}
 use Rattle.vl_run_laws.specs.NodeValues.{WordsAreFit, NodesFitLaw}
-use Rattle.vl_run_laws.proofs.OperatorsFit.{low_fits, residue_fits, either, unary_fits, binary_fits, select_fits, insert_fits, concat_fits}
+use Rattle.operator_laws.proofs.Fits.{low_fits, residue_fits, either, unary_fits, binary_fits, select_fits, insert_fits, concat_fits}
 
 -- a node among the lower ones
 record Lower (nodes : List Node) (k a : ℕ) (P : ℕ → Type 0) : Type 0 where

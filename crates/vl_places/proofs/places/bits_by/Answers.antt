@@ -16,7 +16,7 @@ use Rattle.vl_places.proofs.Selected.{bits_are, whole_read}
 use Rattle.vl_places.proofs.places.bits_by.Goals as goal
 
 pub returns-clause-made : goal.returns-clause-made
-returns-clause-made c = λ g x at i few.
+returns-clause-made c = λ g x at i.
     let n0 = c.args.nodes.now in let n1 = c.place_by.new.nodes in let n2 = c.bits.new.self in let n3 = c.select.new.self in
     let t = c.args.signal in let p = c.args.part in let sh = plain_shape c.args.shape in let u = c.width_of.result in
     let wide : u ≡ width_of sh = c.width_of.ensures in
@@ -34,5 +34,5 @@ returns-clause-made c = λ g x at i few.
     (grows_on g n0 n1 n2 a.1.grown b.1.grown)
     (subst (λ k. IfOk c.select.result (MakesAt g n2 n3 p.count (on_two (selected true k p.count) (bits r) place))) a.0 made)
     (λ v fit. bits_are sh p.way p.count p.signed p.index.width (x.value v) (slice_index v.signals t) u c.requires.some.0 c.requires.some.1
-    bound (few v fit) most (subst (λ k. slice_index v.signals t < 2 ^ k) (sym wide) (fit.signals t (width_of sh) at)))
+    bound (i.fits v fit) most (subst (λ k. slice_index v.signals t < 2 ^ k) (sym wide) (fit.signals t (width_of sh) at)))
     (λ q one. ap (λ y. y || x.reads q) (whole_read q t u some one ∙ ap (λ k. list_any (has_place q t) (up_to k)) wide))

@@ -9,6 +9,7 @@ use Rattle.bit_ops.specs.declared.operator.Unary.{Unary}
 use Rattle.bit_ops.specs.declared.operator.Unary.TheVariants as one
 use Rattle.bit_ops.specs.declared.operator.Binary.{Binary}
 use Rattle.bit_ops.specs.declared.operator.Binary.TheVariants as two
+use Rattle.operator_laws.specs.Fits.{OperatorsFit}
 
 bit_fits : (b : Bool) → ops.bit b < 2 ^ 1
 bit_fits true = lit< tt
@@ -89,3 +90,17 @@ concat_fits v w a b h k =
     let whole : 2 ^ (v + w) ≡ 2 ^ v * 2 ^ w = pow-add 2 v w in
     let less : a * 2 ^ w + b < 2 ^ w * 2 ^ v = mul-add-lt a (2 ^ w) b (2 ^ v) h k in
     omega arith
+
+pub extend_fits : (s : Bool) (w v n : ℕ) → ops.extend s w v n < 2 ^ v
+extend_fits s w v n = residue_fits v _
+
+pub operators_fit : OperatorsFit
+operators_fit = record {
+  unary = unary_fits;
+  binary = binary_fits;
+  extend = extend_fits;
+  low = low_fits;
+  select = select_fits;
+  insert = insert_fits;
+  concat = concat_fits;
+}
