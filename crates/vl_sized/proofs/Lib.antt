@@ -6,8 +6,8 @@ mod Integers
 mod Joints
 mod Judged
 mod Least
-mod NodeViews
+pub mod NodeViews
 mod Senses
 mod Told
 mod Widths
-mod Worths
+pub mod Worths

@@ -54,11 +54,11 @@ beyond_signed v w n h =
 -- ---- cut out
 
 -- a place from which so many bits upward all lie outside
-abbrev IsOff : ℕ → ℤ → Type 0
+abbrev pub IsOff : ℕ → ℤ → Type 0
 IsOff n (pos k) = 128 ≤ k
 IsOff n (negsuc k) = n ≤ suc k
 
-off_select : (n v : ℕ) (z : ℤ) → IsOff n z → v < 2 ^ 128 → select z n v ≡ 0
+pub off_select : (n v : ℕ) (z : ℤ) → IsOff n z → v < 2 ^ 128 → select z n v ≡ 0
 off_select n v (pos k) h fits = ap (λ i. i % 2 ^ n) (high_far 128 k v h fits) ∙ mod-eq_of_lt (pow_pos n)
 off_select n v (negsuc k) h fits = low_far n (suc k) v h
 
@@ -88,7 +88,7 @@ up_off (negsuc a) r n hr hn h =
     let some : n ≤ a = omega (arith, hn, h) in
     subst (IsOff n) (sym (up_below a r n some)) (omega (arith, hn, h))
 
-place_off : (b : Bool) (z : ℤ) (r n : ℕ) → r ≤ MAX_BOUND → n < 2 ^ 32 → 2 ^ 39 ≤ unsigned_abs z
+pub place_off : (b : Bool) (z : ℤ) (r n : ℕ) → r ≤ MAX_BOUND → n < 2 ^ 32 → 2 ^ 39 ≤ unsigned_abs z
     → IsOff n (if b then z -ℤ pos r else pos r -ℤ (z +ℤ (pos n -ℤ pos 1)))
 place_off true z r n hr hn h = down_off z r n hr hn h
 place_off false z r n hr hn h = up_off z r n hr hn h

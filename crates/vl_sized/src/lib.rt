@@ -23,12 +23,12 @@ mod build;
 mod combine;
 mod constancy;
 pub mod node;
-mod numbers;
+pub mod numbers;
 mod picks;
 mod select;
 pub mod value;
 mod walk;
-mod whole;
+pub mod whole;
 
 use dt_core::limits::MAX_WIDTH;
 use node::SizedExpr;

@@ -70,8 +70,8 @@ pub fn cut_out(number: u128, shape: Shape, from: Option<i64>, count: u32, size: 
     }
 }
 
-// The place of the rightmost of so many indices from one upward.
-fn place_of(shape: Shape, from: i64, count: u32) -> i64
+/// The place of the rightmost of so many indices from one upward.
+pub fn place_of(shape: Shape, from: i64, count: u32) -> i64
     requires { IsNear from }
     ensures { result ≡ things.place_of (plain_shape shape) from count }
 {
