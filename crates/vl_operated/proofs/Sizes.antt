@@ -85,28 +85,6 @@ shift_width two.Or w e = absurd cc
 shift_width two.LogicAnd w e = absurd cc
 shift_width two.LogicOr w e = absurd cc
 
-pub shift_one_width : (f : Binary) → is_shift f ≡ true → applied.takes_one_width f ≡ false
-shift_one_width two.Mul e = absurd cc
-shift_one_width two.Div e = absurd cc
-shift_one_width two.Rem e = absurd cc
-shift_one_width two.Add e = absurd cc
-shift_one_width two.Sub e = absurd cc
-shift_one_width two.Shl e = refl
-shift_one_width two.Shr e = refl
-shift_one_width two.Sar e = refl
-shift_one_width two.Lt e = absurd cc
-shift_one_width two.Le e = absurd cc
-shift_one_width two.Gt e = absurd cc
-shift_one_width two.Ge e = absurd cc
-shift_one_width two.Eq e = absurd cc
-shift_one_width two.Ne e = absurd cc
-shift_one_width two.And e = absurd cc
-shift_one_width two.Xor e = absurd cc
-shift_one_width two.Xnor e = absurd cc
-shift_one_width two.Or e = absurd cc
-shift_one_width two.LogicAnd e = absurd cc
-shift_one_width two.LogicOr e = absurd cc
-
 -- a shift by a distance, or what isn't one
 pub shift_is : (f : Binary) (s : Bool) (w a n : ℕ)
     → terms.shift_at f s w a n ≡ (if is_shift f then applied.binary f s w a n else a)
