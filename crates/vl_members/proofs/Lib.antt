@@ -1,0 +1,4 @@
+pub mod Adding
+pub mod Choosing
+pub mod Entering
+pub mod Turning
