@@ -1,0 +1,4 @@
+mod Elaborated
+mod Members
+mod Inputs
+mod Limits
