@@ -1,4 +1,4 @@
-mod Elaborated
+pub mod Elaborated
 mod Members
 mod Inputs
 mod Limits

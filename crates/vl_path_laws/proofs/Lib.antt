@@ -1,0 +1,4 @@
+mod Objects
+mod Holders
+mod Things
+mod Places
