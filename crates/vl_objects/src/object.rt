@@ -177,7 +177,8 @@ fn is_signed(kept: Option<Kept>, other: Option<Partner>, own: bool) -> bool
     }
 }
 
-fn range_of(span: Span, signed: bool) -> Range
+/// The range of a declaration; `[0:0]` where its bounds have a fault.
+pub fn range_of(span: Span, signed: bool) -> Range
     ensures { plain_range result ≡ shape signed (plain_span span) }
 {
     match span.bounds() {
