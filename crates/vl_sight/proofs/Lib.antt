@@ -1,0 +1,5 @@
+pub mod Finding
+pub mod Here
+pub mod Looking
+pub mod Naming
+pub mod Standing

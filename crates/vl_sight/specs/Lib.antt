@@ -1,0 +1,5 @@
+pub mod Bodies
+pub mod Firsts
+pub mod Levels
+pub mod Named
+pub mod Seen
