@@ -1,0 +1,5 @@
+pub mod Deciding
+pub mod Table
+pub mod Pushed
+pub mod Holding
+pub mod Names
