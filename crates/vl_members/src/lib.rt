@@ -8,7 +8,7 @@
 //! Not said: that memory is enough.
 #![tactic(auto)]
 
-mod label;
+pub mod label;
 pub mod members;
 pub mod opening;
 mod turn;

@@ -1,0 +1,4 @@
+pub mod Entering
+pub mod Passing
+pub mod Placing
+pub mod Walking
