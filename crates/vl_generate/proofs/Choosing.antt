@@ -1,5 +1,5 @@
 -- Branches one after another, and what an `if` asks for by the block that is taken.
-use Rattle.std.proofs.Common.{◌≡◌, refl, sym, ap, ◌∙◌, Bool, true, false, if◌then◌else◌, List, [], ◌∷◌, ◌++◌, append-nil, map}
+use Rattle.std.proofs.Common.{◌≡◌, refl, sym, ap, ◌∙◌, Bool, true, false, if◌then◌else◌, List, [], ◌++◌, append-nil}
 use Rattle.std.specs.Prelude.{ℕ, Option, Some, None}
 use Rattle.std.specs.Option.{option_map}
 use Rattle.std.specs.Borrow.{Bor}
@@ -11,7 +11,6 @@ use Rattle.vl_value.specs.Meaning.{Meaning, true_of}
 use Rattle.vl_value.specs.Order as order
 use Rattle.vl_value.specs.Order.{least}
 use Rattle.vl_found.specs.declared.Found.{Found}
-use Rattle.vl_found.specs.View.{found}
 use Rattle.vl_design.specs.Limits.{Limits}
 use Rattle.vl_design.specs.Constants.{Known, value_of, needs}
 use Rattle.vl_design.specs.Generate.{Around}

@@ -1,5 +1,5 @@
 -- The turn of a number: the loop ends where the condition doesn't hold, and else a turn is made, or is one of too many.
-use Rattle.std.proofs.Common.{◌≡◌, refl, sym, ap, ◌∙◌, subst, ℕ, zero, suc, ◌+◌, ◌-◌, ◌<◌, Bool, true, false, if◌then◌else◌, List, [], ◌∷◌, ◌++◌, arith}
+use Rattle.std.proofs.Common.{◌≡◌, refl, sym, ap, ◌∙◌, subst, ℕ, zero, suc, ◌-◌, ◌<◌, Bool, true, false, if◌then◌else◌, List, [], ◌∷◌, arith}
 use Rattle.std.specs.Prelude.{Option, Some, None}
 use Rattle.std.specs.Option.{option_map}
 use Rattle.vl_tree.specs.Syntax as t
@@ -10,19 +10,19 @@ use Rattle.vl_value.specs.Order as order
 use Rattle.vl_value.specs.Order.{at, least}
 use Rattle.vl_found.specs.declared.Found.{Found}
 use Rattle.vl_found.specs.View.{found}
-use Rattle.vl_design.specs.Constants.{Worth, worth, Known, value_of, needs}
+use Rattle.vl_design.specs.Constants.{worth, Known, value_of, needs}
 use Rattle.vl_design.specs.Generate as d
 use Rattle.vl_design.specs.Generate.{Around, ended_by, one_more, if_holds, turns_from}
 use Rattle.vl_frames.specs.declared.frames.Frames.{Frames}
 use Rattle.vl_frames.specs.Marks.{around}
-use Rattle.vl_frames.specs.Changes.{Are, Leaves}
+use Rattle.vl_frames.specs.Changes.{Leaves}
 use Rattle.vl_constants.specs.Needed.{constants_of}
 use Rattle.vl_turns.specs.Turns.{EntersTurn, HasTruth, genvar_worth, truth_in}
 use Rattle.vl_members.proofs.Turning.{left_again}
 use Rattle.vl_generate.specs.declared.turning.Numbered.{Numbered}
 use Rattle.vl_generate.specs.declared.turning.Turning.{Turning}
 use Rattle.vl_generate.specs.declared.turning.Turning.TheVariants as c
-use Rattle.vl_generate.specs.Turning.{Ends, TakesNumber, IsNext, Makes, TurnsAt, TurnsWithin, sight_in, turn_made, turns_left}
+use Rattle.vl_generate.specs.Turning.{Ends, TakesNumber, IsNext, TurnsAt, TurnsWithin, sight_in, turn_made, turns_left}
 
 -- ---- numbers
 

@@ -1,5 +1,5 @@
 -- The scope of a block and that of an instance as the program opens them.
-use Rattle.std.proofs.Common.{◌≡◌, refl, sym, ap, ◌∙◌, subst, ℕ, Bool, true, false, List, [], ◌∷◌, ◌++◌, map}
+use Rattle.std.proofs.Common.{◌≡◌, refl, sym, ap, ◌∙◌, subst, ℕ, true, List, [], ◌∷◌, ◌++◌}
 use Rattle.std.specs.Prelude.{Option, Some, None, slice_get, option_to_list}
 use Rattle.std.specs.Option.{option_map}
 use Rattle.vl_tree.specs.Syntax as t
@@ -12,11 +12,10 @@ use Rattle.vl_found.specs.View.{found}
 use Rattle.vl_design.specs.Limits.{limits}
 use Rattle.vl_design.specs.Lists.{each_of}
 use Rattle.vl_design.specs.Constants.{nothing_known}
-use Rattle.vl_design.specs.Declarations as d
 use Rattle.vl_design.specs.Declarations.{port_needs}
 use Rattle.vl_design.specs.Parameters.{Given, no_type, header_needs}
 use Rattle.vl_design.specs.Generate.{items_tokens}
-use Rattle.vl_design.specs.Scopes.{Level, Scope, Request, instance_begins, expands, opens, failing, Use, Origin, instance_of, block, body_items, body_around, at_entry, ports_of, module_scope}
+use Rattle.vl_design.specs.Scopes.{Scope, Request, instance_begins, expands, opens, failing, Use, block, body_items, at_entry, ports_of, module_scope}
 use Rattle.vl_frames.specs.declared.frames.Frames.{Frames}
 use Rattle.vl_frames.specs.Marks.{around}
 use Rattle.vl_tokens.specs.Counted.{capped}
@@ -31,7 +30,7 @@ use Rattle.vl_opening.specs.declared.block.BlockSite.{BlockSite}
 use Rattle.vl_opening.specs.declared.instance.Site.{Site}
 use Rattle.vl_opening.specs.declared.instance.Entered.{Entered}
 use Rattle.vl_opening.specs.Walking.{IsNumbered, Opens, Walks, scopes_of}
-use Rattle.vl_opening.specs.Entering.{EntersBody, EntersUse, IsEntered, IsUse, entry_requests, scope_at}
+use Rattle.vl_opening.specs.Entering.{EntersBody, EntersUse, IsUse, scope_at}
 use Rattle.vl_opening.proofs.Walking.{walks_on, walks_still, walks_quiet, failing_quiet}
 
 -- ---- a block

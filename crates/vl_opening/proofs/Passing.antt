@@ -1,15 +1,13 @@
 -- A plain item is passed; one after another of what is left.
-use Rattle.std.proofs.Common.{◌≡◌, refl, sym, ap, ◌∙◌, subst, ℕ, Bool, true, false, List, [], ◌∷◌, ◌++◌, map}
+use Rattle.std.proofs.Common.{◌≡◌, refl, sym, Bool, true, List, [], ◌++◌}
 use Rattle.std.specs.Prelude.{Option}
 use Rattle.std.specs.Option.{option_map}
 use Rattle.vl_tree.specs.Syntax as t
-use Rattle.vl_value.specs.Order as order
 use Rattle.vl_value.specs.Order.{least}
 use Rattle.vl_found.specs.declared.Found.{Found}
 use Rattle.vl_found.specs.View.{found}
 use Rattle.vl_design.specs.Declarations.{item_needs}
 use Rattle.vl_design.specs.Parameters.{Given}
-use Rattle.vl_design.specs.Generate.{Around, behind}
 use Rattle.vl_design.specs.Scopes.{Request, failing, misplaced}
 use Rattle.vl_frames.specs.declared.frames.Frames.{Frames}
 use Rattle.vl_frames.specs.Marks.{around}
@@ -19,7 +17,7 @@ use Rattle.vl_declares.specs.Items.{DeclaresItem, holds_none}
 use Rattle.vl_generate.specs.Forms.{is_plain}
 use Rattle.vl_opening.specs.declared.walk.Walk.{Walk}
 use Rattle.vl_opening.specs.Walking.{Walks}
-use Rattle.vl_opening.specs.Passing.{Passes, PassesPlain, plain_requests}
+use Rattle.vl_opening.specs.Passing.{PassesPlain}
 use Rattle.vl_opening.proofs.Walking.{walks_as, walks_on, walks_none, walks_still, failing_joined}
 use Rattle.vl_opening.proofs.Entering.{walks_fail}
 

@@ -1,10 +1,10 @@
 -- Scopes that are appended: those before stay where they are, and the last has their number.
-use Rattle.std.proofs.Common.{◌≡◌, refl, sym, ap, ◌∙◌, subst, ℕ, zero, suc, ◌+◌, List, [], ◌∷◌, ◌++◌, length, arith, Bool}
-use Rattle.std.specs.Prelude.{Option, Some, None, slice_get, option_and_then}
+use Rattle.std.proofs.Common.{◌≡◌, refl, sym, ap, ◌∙◌, ℕ, zero, suc, ◌+◌, List, [], ◌∷◌, ◌++◌, length, arith, Bool}
+use Rattle.std.specs.Prelude.{Option, Some, None, slice_get}
 use Rattle.vl_design.specs.Parameters.{Given}
-use Rattle.vl_design.specs.Scopes.{Level, Scope, Here, levels}
+use Rattle.vl_design.specs.Scopes.{Level, Scope, levels}
 use Rattle.vl_scopes.specs.declared.scope.Scope as code
-use Rattle.vl_scopes.specs.Plain.{plain_scope, plain_scopes, scopes_after, levels_at, path_at}
+use Rattle.vl_scopes.specs.Plain.{plain_scope, plain_scopes, scopes_after}
 use Rattle.vl_value.specs.Paths.{Path}
 use Rattle.vl_opening.specs.Walking.{Keeps, here_in}
 

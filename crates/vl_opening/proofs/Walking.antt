@@ -1,6 +1,6 @@
 -- One list of requests and then another, nothing behind the end, and each request by itself.
-use Rattle.std.proofs.Common.{◌≡◌, refl, sym, ap, ◌∙◌, subst, ℕ, suc, ◌+◌, Bool, true, false, ◌&&◌, if◌then◌else◌, List, [], ◌∷◌, ◌++◌, append-nil, map, length}
-use Rattle.std.specs.Prelude.{Option, Some, None, slice_get, nat_lt}
+use Rattle.std.proofs.Common.{◌≡◌, refl, sym, ap, ◌∙◌, subst, ℕ, suc, ◌+◌, Bool, true, false, ◌&&◌, if◌then◌else◌, List, [], ◌∷◌, ◌++◌, length}
+use Rattle.std.specs.Prelude.{Some, None, slice_get, nat_lt}
 use Rattle.vl_tree.specs.Syntax.{Place}
 use Rattle.vl_tree.specs.SyntaxView as view
 use Rattle.vl_tree.specs.declared.fault.FaultKind.TheVariants.{TooManyInstances, Expanded}
@@ -11,12 +11,12 @@ use Rattle.vl_design.specs.Scopes.{Scope, Request, instance_begins, expands, ope
 use Rattle.vl_design.specs.Walk.{Built, ended_with, built, heard, all_heard}
 use Rattle.vl_design.proofs.HeardLaws.{heard_joined, heard_ended}
 use Rattle.vl_build.specs.declared.progress.Progress.{Progress}
-use Rattle.vl_build.specs.Heard.{Counts, Hears, Tells}
+use Rattle.vl_build.specs.Heard.{Hears, Tells}
 use Rattle.vl_build.proofs.Hearing.{still}
 use Rattle.vl_scopes.specs.declared.scope.Scope as code
 use Rattle.vl_scopes.specs.Plain.{plain_scope, plain_scopes}
 use Rattle.vl_opening.specs.declared.walk.Walk.{Walk}
-use Rattle.vl_opening.specs.Walking.{IsNumbered, IsOpen, Keeps, Opens, Walks, scopes_of}
+use Rattle.vl_opening.specs.Walking.{IsOpen, Keeps, Opens, Walks, scopes_of}
 use Rattle.vl_opening.proofs.Placing.{scopes_on, length_is, last_there, stays}
 
 -- ---- one list and then another

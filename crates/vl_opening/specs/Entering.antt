@@ -1,5 +1,5 @@
 -- How the scope of a block and that of an instance are opened. This project's own.
-use Rattle.std.specs.Prelude.{◌≡◌, ℕ, true, false, List, [], ◌∷◌, ◌++◌, Option, Some, None, map, option_to_list, slice_get}
+use Rattle.std.specs.Prelude.{◌≡◌, ℕ, true, false, List, [], ◌∷◌, ◌++◌, Option, Some, None, option_to_list, slice_get}
 use Rattle.std.specs.Option.{option_map}
 use Rattle.vl_tree.specs.Syntax as t
 use Rattle.vl_tree.specs.SyntaxView as view
@@ -9,7 +9,7 @@ use Rattle.vl_design.specs.Constants.{nothing_known}
 use Rattle.vl_design.specs.Declarations.{port_needs}
 use Rattle.vl_design.specs.Parameters.{Given, no_type, header_needs}
 use Rattle.vl_design.specs.Generate.{Around, items_tokens}
-use Rattle.vl_design.specs.Scopes.{Scope, Here, Request, instance_begins, expands, opens, failing, Use, instance_of, body_around, block_scope, at_entry, ports_of, module_scope}
+use Rattle.vl_design.specs.Scopes.{Scope, Request, instance_begins, expands, opens, failing, Use, instance_of, body_around, block_scope, at_entry, ports_of, module_scope}
 use Rattle.vl_frames.specs.declared.frames.Frames.{Frames}
 use Rattle.vl_frames.specs.Marks.{around}
 use Rattle.vl_scopes.specs.Plain.{plain_step, plain_turn, plain_origin, outer_of, made_of, path_at}

@@ -1,8 +1,6 @@
 use Rattle.std.proofs.Common.{◌≡◌, ◌+◌, sym, ap, ◌∙◌}
 use Rattle.std.specs.Prelude.{Option, Some, None, IfSome, ℕ}
-use Rattle.vl_tree.specs.SyntaxView as view
 use Rattle.vl_design.specs.Generate.{constructs_of}
-use Rattle.vl_views.specs.Blocks.{items_of}
 use Rattle.vl_views.proofs.ItemViews.{region_is}
 use Rattle.vl_generate.proofs.construct.+number.Goals as goal
 

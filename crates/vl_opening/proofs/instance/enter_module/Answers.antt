@@ -1,5 +1,5 @@
 use Rattle.std.proofs.Common.{refl, sym, ap, ◌∙◌, subst, map}
-use Rattle.std.specs.Prelude.{None, Some}
+use Rattle.std.specs.Prelude.{None}
 use Rattle.vl_tree.specs.SyntaxView as view
 use Rattle.vl_design.specs.Generate.{items_tokens}
 use Rattle.vl_views.specs.Blocks.{items_of}
