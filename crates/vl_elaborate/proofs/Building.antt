@@ -1,5 +1,5 @@
 -- What was walked from the top is what is built of a source; and the faults of all modules and of the top together.
-use Rattle.std.proofs.Common.{◌≡◌, refl, sym, ap, ◌∙◌, subst, List, [], ◌∷◌, ◌++◌, map}
+use Rattle.std.proofs.Common.{◌≡◌, sym, ap, ◌∙◌, List, [], ◌∷◌}
 use Rattle.std.specs.Prelude.{Option, Some, None}
 use Rattle.std.specs.Option.{option_map}
 use Rattle.dt_core.specs.declared.place.Place.{Place}
@@ -7,7 +7,6 @@ use Rattle.vl_tree.specs.Syntax.{Source, Module}
 use Rattle.vl_tree.specs.SyntaxView as view
 use Rattle.vl_tree.specs.declared.fault.FaultKind.TheVariants.{NoTop}
 use Rattle.vl_value.specs.Paths.{Text}
-use Rattle.vl_value.specs.Order as order
 use Rattle.vl_value.specs.Order.{at, least, lesser}
 use Rattle.vl_value.proofs.OrderLaws.{least_joined}
 use Rattle.vl_found.specs.declared.Found.{Found}

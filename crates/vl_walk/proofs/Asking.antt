@@ -1,36 +1,28 @@
 -- What blocks and modules ask for, by their parts; and where items stand in a scope that is there.
-use Rattle.std.proofs.Common.{◌≡◌, refl, sym, ap, ◌∙◌, subst, ℕ, zero, suc, ◌+◌, ◌-◌, ◌<◌, Bool, true, false, if◌then◌else◌, List, [], ◌∷◌, ◌++◌, append-nil, append_assoc, arith, map}
+use Rattle.std.proofs.Common.{◌≡◌, refl, sym, ap, ◌∙◌, ℕ, suc, ◌-◌, ◌<◌, Bool, true, false, if◌then◌else◌, List, [], ◌∷◌, ◌++◌, append-nil, arith}
 use Rattle.std.specs.Prelude.{Option, Some, None, slice_get}
 use Rattle.std.specs.Option.{option_map}
-use Rattle.std.specs.Borrow.{Bor}
 use Rattle.vl_tree.specs.Syntax as t
 use Rattle.vl_tree.specs.Syntax.{Place, Source}
-use Rattle.vl_tree.specs.SyntaxView as view
 use Rattle.vl_tree.specs.declared.fault.FaultKind.TheVariants.{TooDeep}
 use Rattle.vl_value.specs.Paths.{Step}
-use Rattle.vl_value.specs.Order as order
 use Rattle.vl_value.specs.Order.{at}
-use Rattle.vl_design.specs.Limits.{Limits, limits}
+use Rattle.vl_design.specs.Limits.{limits}
 use Rattle.vl_design.specs.Parameters.{Given}
 use Rattle.vl_design.specs.Generate.{Around, is_if, step_of, label_of}
 use Rattle.vl_design.specs.Scopes as d
 use Rattle.vl_design.specs.Scopes.{Scope, Maker, Request, Use, instance_begins, fails, opens, block_requests, scope_requests, items_requests, item_requests, within, inside, body_around, body_items, at_entry, module_scope}
-use Rattle.vl_frames.specs.declared.frames.Frames.{Frames}
-use Rattle.vl_frames.specs.Marks.{around}
 use Rattle.vl_generate.specs.Forms.{is_inner_if}
 use Rattle.vl_scopes.specs.Plain.{plain_step, plain_turn}
 use Rattle.vl_opening.specs.declared.walk.Walk.{Walk}
 use Rattle.vl_opening.specs.declared.block.BlockSite.{BlockSite}
-use Rattle.vl_opening.specs.declared.instance.Site.{Site}
-use Rattle.vl_opening.specs.Walking.{IsOpen, Keeps, Walks, here_in, scopes_of}
-use Rattle.vl_opening.specs.Entering.{IsUse, EntersUse, entry_requests, scope_at}
-use Rattle.vl_opening.specs.Passing.{Passes}
+use Rattle.vl_opening.specs.Walking.{IsOpen, Walks, here_in, scopes_of}
+use Rattle.vl_opening.specs.Entering.{entry_requests, scope_at}
 use Rattle.vl_opening.proofs.Placing.{here_of, here_kept}
-use Rattle.vl_opening.proofs.Walking.{walks_as, walks_on, walks_still}
 use Rattle.vl_walk.specs.declared.modules.Modules.{Modules}
 use Rattle.vl_walk.specs.declared.walking.Here.{Here}
 use Rattle.vl_walk.specs.Library.{source_of, maker_of}
-use Rattle.vl_walk.specs.Asked.{asks_items, asks_scope, asks_turn, place_of}
+use Rattle.vl_walk.specs.Asked.{asks_items, asks_scope, place_of}
 
 -- ---- where items stand
 

@@ -1,39 +1,35 @@
 -- Items one after another; a block, a module and its instances from their parts.
-use Rattle.std.proofs.Common.{◌≡◌, refl, sym, ap, ◌∙◌, subst, ℕ, suc, ◌+◌, ◌-◌, ◌<◌, Bool, true, false, if◌then◌else◌, List, [], ◌∷◌, ◌++◌, map, append-nil}
-use Rattle.std.specs.Prelude.{Option, Some, None, slice_get}
-use Rattle.std.specs.Option.{option_map}
+use Rattle.std.proofs.Common.{◌≡◌, refl, sym, ap, ◌∙◌, subst, ℕ, ◌+◌, ◌-◌, ◌<◌, Bool, true, false, List, [], ◌∷◌, ◌++◌, append-nil}
+use Rattle.std.specs.Prelude.{Option, Some, None}
 use Rattle.vl_tree.specs.Syntax as t
 use Rattle.vl_tree.specs.Syntax.{Place, Source}
-use Rattle.vl_tree.specs.SyntaxView as view
-use Rattle.vl_value.specs.Order as order
-use Rattle.vl_found.specs.declared.Found.{Found}
 use Rattle.vl_design.specs.Limits.{limits}
 use Rattle.vl_design.specs.Parameters.{Given}
-use Rattle.vl_design.specs.Generate.{Around, behind, constructs_of, is_if}
+use Rattle.vl_design.specs.Generate.{behind, constructs_of}
 use Rattle.vl_design.specs.Scopes as d
 use Rattle.vl_design.specs.Scopes.{Scope, Request, Use, opens, failing, within, inside, body_around, body_items, at_entry, module_scope}
 use Rattle.vl_frames.specs.declared.frames.Frames.{Frames}
 use Rattle.vl_frames.specs.Marks.{around}
-use Rattle.vl_frames.specs.Changes.{Are, Leaves}
+use Rattle.vl_frames.specs.Changes.{Leaves}
 use Rattle.vl_members.specs.Members.{all_behind}
 use Rattle.vl_members.proofs.Turning.{left_again, same_around}
 use Rattle.vl_members.proofs.Adding.{region_behind}
-use Rattle.vl_generate.specs.Choices.{Taken, taken_of}
-use Rattle.vl_generate.proofs.Choosing.{branches_ask, taken_requests}
+use Rattle.vl_generate.specs.Choices.{taken_of}
+use Rattle.vl_generate.proofs.Choosing.{branches_ask}
 use Rattle.vl_opening.specs.declared.walk.Walk.{Walk}
 use Rattle.vl_opening.specs.declared.block.BlockSite.{BlockSite}
 use Rattle.vl_opening.specs.declared.instance.Site.{Site}
 use Rattle.vl_opening.specs.declared.instance.Entered.{Entered}
 use Rattle.vl_opening.specs.Walking.{IsOpen, Walks, here_in, scopes_of}
-use Rattle.vl_opening.specs.Entering.{EntersBody, EntersUse, IsUse, IsEntered, entry_requests, scope_at}
-use Rattle.vl_opening.specs.Passing.{Passes, PassesPlain}
-use Rattle.vl_opening.proofs.Walking.{walks_as, walks_on, walks_still, walks_ended, open_on}
-use Rattle.vl_opening.proofs.Passing.{Leads, leads_start, leads_on, leads_end, leads_ended}
+use Rattle.vl_opening.specs.Entering.{EntersBody, EntersUse, IsUse, entry_requests, scope_at}
+use Rattle.vl_opening.specs.Passing.{Passes}
+use Rattle.vl_opening.proofs.Walking.{walks_as, walks_on, walks_ended, open_on}
+use Rattle.vl_opening.proofs.Passing.{Leads, leads_start, leads_on, leads_end}
 use Rattle.vl_walk.specs.declared.modules.Modules.{Modules}
 use Rattle.vl_walk.specs.declared.walking.Here.{Here}
 use Rattle.vl_walk.specs.Library.{source_of, maker_of}
-use Rattle.vl_walk.specs.Asked.{HearsModule, PassesItem, PassesItems, PassesScope, asks_item, asks_items, asks_scope, place_of}
-use Rattle.vl_walk.proofs.Asking.{place_on, inside_is, within_is, module_asks, deep_asks}
+use Rattle.vl_walk.specs.Asked.{HearsModule, PassesItem, PassesItems, PassesScope, asks_item, asks_items, place_of}
+use Rattle.vl_walk.proofs.Asking.{place_on, inside_is, within_is, module_asks}
 
 both : (y : Bool) → y ≡ true → y ≡ false → ⊥
 both true e f = absurd cc

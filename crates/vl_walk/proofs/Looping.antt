@@ -1,10 +1,9 @@
 -- The turns of a loop one after another, and the block of a turn and of a branch.
-use Rattle.std.proofs.Common.{◌≡◌, refl, sym, ap, ◌∙◌, subst, ℕ, suc, ◌+◌, ◌-◌, ◌<◌, Bool, true, false, if◌then◌else◌, List, [], ◌∷◌, ◌++◌, append_assoc, map}
+use Rattle.std.proofs.Common.{◌≡◌, refl, sym, ap, ◌∙◌, ℕ, ◌-◌, true, false, if◌then◌else◌, List, [], ◌∷◌, ◌++◌, append_assoc}
 use Rattle.std.specs.Prelude.{Option, Some, None}
 use Rattle.std.specs.Option.{option_map}
 use Rattle.vl_tree.specs.Syntax as t
 use Rattle.vl_tree.specs.Syntax.{Place}
-use Rattle.vl_tree.specs.SyntaxView as view
 use Rattle.vl_tree.specs.declared.fault.FaultKind.TheVariants.{Misplaced}
 use Rattle.vl_value.specs.Order as order
 use Rattle.vl_value.specs.Order.{at, least}
@@ -34,7 +33,7 @@ use Rattle.vl_opening.specs.declared.block.BlockSite.{BlockSite}
 use Rattle.vl_opening.specs.Walking.{IsOpen, Walks, here_in, scopes_of}
 use Rattle.vl_opening.specs.Passing.{Passes}
 use Rattle.vl_opening.proofs.Walking.{walks_as, walks_on, open_on}
-use Rattle.vl_opening.proofs.Passing.{Leads, leads_start, leads_on, leads_ended}
+use Rattle.vl_opening.proofs.Passing.{Leads, leads_on, leads_ended}
 use Rattle.vl_walk.specs.declared.modules.Modules.{Modules}
 use Rattle.vl_walk.specs.declared.walking.Here.{Here}
 use Rattle.vl_walk.specs.Library.{source_of, maker_of}

@@ -1,29 +1,22 @@
 -- Instances of a module one after another.
-use Rattle.std.proofs.Common.{◌≡◌, refl, sym, ap, ◌∙◌, subst, ℕ, suc, ◌+◌, ◌<◌, Bool, true, false, List, [], ◌∷◌, ◌++◌, map}
+use Rattle.std.proofs.Common.{◌≡◌, sym, ap, ◌∙◌, true, List, [], ◌∷◌, ◌++◌, map}
 use Rattle.std.specs.Prelude.{Option, Some, None}
-use Rattle.std.specs.Option.{option_map}
 use Rattle.vl_tree.specs.Syntax as t
-use Rattle.vl_tree.specs.SyntaxView as view
 use Rattle.vl_tree.specs.declared.fault.FaultKind.TheVariants.{UnknownModule}
-use Rattle.vl_value.specs.Order as order
-use Rattle.vl_value.specs.Order.{at, least}
-use Rattle.vl_design.specs.Limits.{limits}
+use Rattle.vl_value.specs.Order.{at}
 use Rattle.vl_design.specs.Constants.{Known}
 use Rattle.vl_design.specs.Parameters.{Given, given_of, binds_faults}
-use Rattle.vl_design.specs.Scopes as d
-use Rattle.vl_design.specs.Scopes.{Maker, Request, fails, failing, each_instance, instances_by, module_at}
+use Rattle.vl_design.specs.Scopes.{fails, failing, each_instance, instances_by, module_at}
 use Rattle.vl_frames.specs.declared.frames.Frames.{Frames}
 use Rattle.vl_frames.specs.Marks.{around}
 use Rattle.vl_constants.specs.Needed.{constants_of}
-use Rattle.vl_parameters.specs.Plain.{plain_given}
 use Rattle.vl_opening.specs.declared.walk.Walk.{Walk}
 use Rattle.vl_opening.specs.declared.instance.Site.{Site}
 use Rattle.vl_opening.specs.Walking.{IsOpen, Walks, scopes_of}
 use Rattle.vl_opening.specs.Entering.{begins}
 use Rattle.vl_opening.proofs.Walking.{walks_as, walks_on, open_on}
-use Rattle.vl_opening.proofs.Passing.{Leads, leads_start, leads_on, leads_end, leads_ended}
+use Rattle.vl_opening.proofs.Passing.{Leads, leads_on, leads_end, leads_ended}
 use Rattle.vl_walk.specs.declared.modules.Modules.{Modules}
-use Rattle.vl_walk.specs.declared.supply.Supply.{Supply}
 use Rattle.vl_walk.specs.declared.walking.Here.{Here}
 use Rattle.vl_walk.specs.Library.{source_of, maker_of}
 use Rattle.vl_walk.specs.Asked.{HearsInstances, HearsModule, IsInstanceSite, Supplies, place_of, use_of}

@@ -1,6 +1,5 @@
 -- What each part of the walk asks for, and how it is passed. This project's own.
 use Rattle.std.specs.Prelude.{◌≡◌, ℕ, Bool, List, [], ◌∷◌, ◌++◌, Option, Some, None, map}
-use Rattle.std.specs.Option.{option_map}
 use Rattle.vl_tree.specs.Syntax as t
 use Rattle.vl_tree.specs.Syntax.{Place}
 use Rattle.vl_tree.specs.SyntaxView as view
@@ -8,14 +7,13 @@ use Rattle.vl_value.specs.Paths.{named}
 use Rattle.vl_design.specs.Limits.{limits}
 use Rattle.vl_design.specs.Constants.{Known}
 use Rattle.vl_design.specs.Parameters.{Given, given_of, binds_faults}
-use Rattle.vl_design.specs.Generate.{Around, behind, in_turn, step_of, label_of, turn_number, turn_tokens}
+use Rattle.vl_design.specs.Generate.{Around, behind, turn_tokens}
 use Rattle.vl_design.specs.Scopes as d
 use Rattle.vl_design.specs.Scopes.{Request, Use, expands, opens, failing, instances_by, module_at, items_requests, item_requests, block_requests, within, body_around, body_items}
 use Rattle.vl_frames.specs.declared.frames.Frames.{Frames}
 use Rattle.vl_frames.specs.Marks.{around}
 use Rattle.vl_parameters.specs.Plain.{plain_given}
 use Rattle.vl_members.specs.Members.{all_behind}
-use Rattle.vl_scopes.specs.Plain.{path_at, levels_at}
 use Rattle.vl_opening.specs.declared.walk.Walk.{Walk}
 use Rattle.vl_opening.specs.declared.block.BlockSite.{BlockSite}
 use Rattle.vl_opening.specs.declared.instance.Site.{Site}

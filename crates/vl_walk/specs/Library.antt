@@ -1,15 +1,11 @@
 -- The modules of a source, as the program has them. This project's own.
-use Rattle.std.specs.Prelude.{◌≡◌, ℕ, List, Option, Some, None, map, nat_eq}
+use Rattle.std.specs.Prelude.{◌≡◌, ℕ, map, nat_eq}
 use Rattle.std.specs.Cmp.Lexicographic.{pointwise}
 use Rattle.indexmap.specs.IndexMap.{get}
-use Rattle.vl_tree.specs.Syntax as t
 use Rattle.vl_tree.specs.Syntax.{Source}
 use Rattle.vl_tree.specs.SyntaxView as view
-use Rattle.vl_value.specs.Paths.{Text}
 use Rattle.vl_design.specs.Limits.{limits}
-use Rattle.vl_design.specs.Constants.{Known}
-use Rattle.vl_design.specs.Parameters.{given_of, binds_faults}
-use Rattle.vl_design.specs.Scopes.{Maker, Here, Request, failing, instance_requests, instances_by, module_at}
+use Rattle.vl_design.specs.Scopes.{Maker, instance_requests}
 use Rattle.vl_top.specs.Names.{FindsModules}
 use Rattle.vl_walk.specs.declared.modules.Modules.{Modules}
 

@@ -1,5 +1,4 @@
-use Rattle.std.proofs.Common.{refl, sym, ap, ◌∙◌, map}
-use Rattle.std.specs.Prelude.{Some}
+use Rattle.std.proofs.Common.{refl, sym, ap, ◌∙◌}
 use Rattle.std.specs.Option.{option_map}
 use Rattle.vl_tree.specs.SyntaxView as view
 use Rattle.vl_design.specs.Parameters.{binds_faults}

@@ -1,4 +1,4 @@
-use Rattle.std.proofs.Common.{refl, []}
+use Rattle.std.proofs.Common.{refl}
 use Rattle.vl_tree.specs.SyntaxView as view
 use Rattle.vl_design.specs.Scopes.{top_use}
 use Rattle.vl_walk.proofs.top.walk_top.Goals as goal

@@ -1,8 +1,7 @@
-use Rattle.std.proofs.Common.{◌≡◌, ◌<◌, ◌+◌, ◌-◌, ◌*◌, ◌++◌, ℕ, true, false, List, [], ◌∷◌, length, get_or, drop, map, refl, sym, ap, ◌∙◌, subst, arith}
+use Rattle.std.proofs.Common.{◌≡◌, ◌<◌, ◌+◌, ◌-◌, ◌*◌, ℕ, true, false, List, ◌∷◌, length, get_or, drop, map, refl, sym, ap, ◌∙◌, subst, arith}
 use Rattle.std.proofs.lemmas.List.{drop_all, drop_more}
 use Rattle.std.specs.Prelude.{Some, None}
 use Rattle.std.specs.Option.{option_map}
-use Rattle.vl_tree.specs.Syntax as t
 use Rattle.vl_tree.specs.SyntaxView as view
 use Rattle.vl_tree.specs.declared.item.Instance.{Instance}
 use Rattle.vl_views.specs.Blocks.{items_of, block_of, branches_of, else_of}
@@ -19,7 +18,7 @@ use Rattle.vl_walk.specs.declared.walking.Here.{Here}
 use Rattle.vl_walk.specs.Library.{source_of, maker_of}
 use Rattle.vl_walk.specs.Asked.{Supplies, place_of, use_of}
 use Rattle.vl_walk.proofs.Weights.{item_weight, items_weight, block_weight, branches_weight, else_weight, source_weight, module_weight, element_less, block_most, found_less, instance_less, inside_less}
-use Rattle.vl_walk.proofs.Items.{since_on, since_ended, since_end, passes_same, passes_region, passes_quietly, passes_taken, passes_none, scope_made, scope_none, module_made, module_none}
+use Rattle.vl_walk.proofs.Items.{since_on, since_ended, since_end, passes_same, passes_region, passes_taken, passes_none, scope_made, scope_none, module_made, module_none}
 use Rattle.vl_walk.proofs.Looping.{passes_turn, passes_other, passes_inner, loop_misplaced, loop_start, loop_ended, loop_end, loop_on}
 use Rattle.vl_walk.proofs.Supplying.{among_start, among_on, among_end, among_ended}
 use Rattle.vl_walk.proofs.walking.+walk.Goals as goal
